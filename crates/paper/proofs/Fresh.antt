@@ -1,0 +1,21 @@
+-- The networks of the runs are sound, by computation.
+use mathlib.Core.Path.{_≡_, refl}
+use Prim.Native.Nat.{ℕ}
+use Rattle.network.specs.Network.{copies, fresh, heardSound, pendingSound, cellSound, firstNot, lowestUnsound, soundness}
+use Rattle.paper.specs.Programs.{neighbours, unranged, heardTwo}
+
+pub fresh-sound : soundness fresh ≡ (0, 0)
+unfolding fresh heardSound pendingSound cellSound firstNot lowestUnsound soundness
+fresh-sound = refl
+
+pub neighbours-sound : soundness neighbours ≡ (0, 0)
+unfolding fresh heardSound pendingSound cellSound firstNot lowestUnsound soundness
+neighbours-sound = refl
+
+pub unranged-sound : soundness unranged ≡ (0, 0)
+unfolding fresh heardSound pendingSound cellSound firstNot lowestUnsound soundness
+unranged-sound = refl
+
+pub heardTwo-sound : soundness heardTwo ≡ (0, 0)
+unfolding fresh heardSound pendingSound cellSound firstNot lowestUnsound soundness
+heardTwo-sound = refl

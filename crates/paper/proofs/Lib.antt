@@ -1,0 +1,4 @@
+pub mod Computed
+pub mod Fresh
+pub mod Runs
+pub mod Clashes

@@ -1,0 +1,6 @@
+pub mod Table
+pub mod Tree
+pub mod Check
+pub mod Sorts
+pub mod Scope
+pub mod Conditions
