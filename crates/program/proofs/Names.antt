@@ -1,0 +1,147 @@
+-- Numbers in lists: whether one stands there, how often, and whether it is fresh.
+use mathlib.Core.Path.{_≡_, refl, sym, _∙_, ap}
+use mathlib.Core.Logic.{_⊎_, inl, inr}
+use mathlib.Core.Bool.{Bool, true, false, not, cond, _||_, or-true, true≢false}
+use mathlib.Core.List.{List, [], _∷_, _++_, List·Memᴰ, List·Memᴰ·head, List·Memᴰ·tail}
+use Prim.Native.Nat.{ℕ, zero, suc, _+_, _≤_, _<_}
+use native.Mathlib.Omega.{arith}
+use lib.Dec.{eqb, leb}
+use borrow.Author.Tests.{eqb-true, eqb-false, eq-eqb, leb-false, lt-leb, not-false}
+use Rattle.program.specs.Table.{among, beyond, takenBy, unnamed}
+use Rattle.program.specs.Conditions.{times}
+use Rattle.program.proofs.Tests.{known, either, neither}
+
+pub among-mem : (k : ℕ) (ns : List ℕ) → among k ns ≡ true → List·Memᴰ k ns
+unfolding among
+among-mem k [] e = absurd (true≢false (sym e))
+among-mem k (n ∷ ns) e = go (eqb k n) refl (among-mem k ns) e
+  where
+    go : (b : Bool) → eqb k n ≡ b → (among k ns ≡ true → List·Memᴰ k ns) → (b || among k ns) ≡ true → List·Memᴰ k (n ∷ ns)
+    go true q f e = List·Memᴰ·head (eqb-true k n q)
+    go false q f e = List·Memᴰ·tail (f e)
+
+pub mem-among : {k : ℕ} {ns : List ℕ} → List·Memᴰ k ns → among k ns ≡ true
+unfolding among
+mem-among {k} (List·Memᴰ·head {x = n} e) = rw (eq-eqb k n e)
+mem-among {k} (List·Memᴰ·tail {x = n} m) = rw (mem-among m) (or-true (eqb k n))
+
+pub times-append : (k : ℕ) (ms ns : List ℕ) → times k (ms ++ ns) ≡ times k ms + times k ns
+unfolding times
+times-append k [] ns = omega arith
+times-append k (m ∷ ms) ns = go (eqb k m) (times-append k ms ns)
+  where
+    go : (b : Bool) → times k (ms ++ ns) ≡ times k ms + times k ns
+        → cond b (suc (times k (ms ++ ns))) (times k (ms ++ ns)) ≡ cond b (suc (times k ms)) (times k ms) + times k ns
+    go true e = omega arith
+    go false e = e
+
+-- it stands there exactly if it stands there at least once
+pub times-among : (k : ℕ) (ns : List ℕ) → 0 < times k ns → among k ns ≡ true
+unfolding times among
+times-among k [] h = absurd (omega arith)
+times-among k (n ∷ ns) h = go (eqb k n) (times-among k ns) h
+  where
+    go : (b : Bool) → (0 < times k ns → among k ns ≡ true) → 0 < cond b (suc (times k ns)) (times k ns) → (b || among k ns) ≡ true
+    go true f h = refl
+    go false f h = f h
+
+pub among-times : (k : ℕ) (ns : List ℕ) → among k ns ≡ true → 0 < times k ns
+unfolding times among
+among-times k [] h = absurd (true≢false (sym h))
+among-times k (n ∷ ns) h = go (eqb k n) (among-times k ns) h
+  where
+    go : (b : Bool) → (among k ns ≡ true → 0 < times k ns) → (b || among k ns) ≡ true → 0 < cond b (suc (times k ns)) (times k ns)
+    go true f h = omega arith
+    go false f h = f h
+
+absent-times : (k : ℕ) (ns : List ℕ) → among k ns ≡ false → times k ns ≡ 0
+absent-times k ns e = go (times k ns) refl
+  where
+    go : (n : ℕ) → times k ns ≡ n → n ≡ 0
+    go zero q = refl
+    go (suc n) q = absurd (true≢false (sym (times-among k ns (omega arith)) ∙ e))
+
+times-absent : (k : ℕ) (ns : List ℕ) → times k ns ≡ 0 → among k ns ≡ false
+times-absent k ns e = go (known (among k ns))
+  where
+    go : (among k ns ≡ true) ⊎ (among k ns ≡ false) → among k ns ≡ false
+    go (inl q) = let h : 0 < times k ns = among-times k ns q in absurd (omega arith)
+    go (inr q) = q
+
+-- what stands in ns stands nowhere else, neither in ns nor among those taken
+abbrev pub Fresh : List ℕ → List ℕ → Type 0
+Fresh taken ns = (k : ℕ) → 0 < times k ns → times k taken + times k ns ≤ 1
+
+self : (n : ℕ) → times n (n ∷ []) ≡ 1
+unfolding times
+self n = rw (eq-eqb n n refl)
+
+pub one : (k n : ℕ) → (times k (n ∷ []) ≡ 0) ⊎ (k ≡ n)
+unfolding times
+one k n = go (eqb k n) refl
+  where
+    go : (b : Bool) → eqb k n ≡ b → (_≡_ {A = ℕ} (cond b 1 0) 0) ⊎ (k ≡ n)
+    go true q = inr (eqb-true k n q)
+    go false q = inl refl
+
+-- none is taken exactly where all are fresh
+pub taken-fresh : (taken ns : List ℕ) → takenBy taken ns ≡ false → Fresh taken ns
+unfolding takenBy
+taken-fresh taken [] e k h = unfold times in absurd (omega arith)
+taken-fresh taken (n ∷ ns) e k h =
+    go (times k ns) refl (one k n) (taken-fresh (n ∷ taken) ns (either (among n taken) _ e .1) k) (absent-times n taken (either (among n taken) _ e .0))
+  where
+    go : (m : ℕ) → times k ns ≡ m → (times k (n ∷ []) ≡ 0) ⊎ (k ≡ n) → (0 < times k ns → times k (n ∷ taken) + times k ns ≤ 1) → times n taken ≡ 0
+        → times k taken + times k (n ∷ ns) ≤ 1
+    go (suc m) q c f a = omega (arith, f (omega arith), times-append k (n ∷ []) taken, times-append k (n ∷ []) ns)
+    go zero q (inl z) f a = absurd (omega (arith, times-append k (n ∷ []) ns))
+    go zero q (inr z) f a = omega (arith, ap (λ (i : ℕ). times i (n ∷ [])) z, self n, ap (λ (i : ℕ). times i taken) z, times-append k (n ∷ []) ns)
+
+pub fresh-taken : (taken ns : List ℕ) → Fresh taken ns → takenBy taken ns ≡ false
+unfolding takenBy
+fresh-taken taken [] f = refl
+fresh-taken taken (n ∷ ns) f =
+    let t = times-append n (n ∷ []) ns in
+    let s = self n in
+    let z : times n taken ≡ 0 = omega (arith, f n (omega arith)) in
+    neither (times-absent n taken z)
+    (fresh-taken (n ∷ taken) ns
+    (λ k h. let u = times-append k (n ∷ []) ns in omega (arith, f k (omega arith), times-append k (n ∷ []) taken)))
+
+pub fresh-none : (taken : List ℕ) → Fresh taken []
+unfolding takenBy
+fresh-none taken = taken-fresh taken [] refl
+
+pub fresh-one : (taken : List ℕ) (k : ℕ) → among k taken ≡ false → Fresh taken (k ∷ [])
+unfolding takenBy
+fresh-one taken k e = taken-fresh taken (k ∷ []) (neither e refl)
+
+pub one-fresh : (taken : List ℕ) (k : ℕ) → Fresh taken (k ∷ []) → among k taken ≡ false
+unfolding takenBy
+one-fresh taken k f = either _ false (fresh-taken taken (k ∷ []) f) .0
+
+-- none is beyond the bound exactly where all are below
+pub beyond-mem : {bound k : ℕ} {ns : List ℕ} → beyond bound ns ≡ false → List·Memᴰ k ns → k < bound
+unfolding beyond
+beyond-mem {bound} e (List·Memᴰ·head {x = n} q) = omega (arith, leb-false bound n (either _ _ e .0))
+beyond-mem {bound} e (List·Memᴰ·tail {x = n} m) = beyond-mem (either (leb bound n) _ e .1) m
+
+pub mem-beyond : (bound : ℕ) (ns : List ℕ) → ((k : ℕ) → List·Memᴰ k ns → k < bound) → beyond bound ns ≡ false
+unfolding beyond
+mem-beyond bound [] f = refl
+mem-beyond bound (n ∷ ns) f = neither (lt-leb bound n (f n (List·Memᴰ·head refl))) (mem-beyond bound ns (λ k m. f k (List·Memᴰ·tail m)))
+
+-- none below n is unnamed exactly where all are named
+pub unnamed-among : (n : ℕ) (ns : List ℕ) → unnamed n ns ≡ false → (k : ℕ) → k < n → among k ns ≡ true
+unfolding unnamed
+unnamed-among zero ns e k h = absurd (omega arith)
+unnamed-among (suc n) ns e k h = go (eqb k n) refl (unnamed-among n ns (either (not (among n ns)) _ e .1) k)
+  where
+    go : (b : Bool) → eqb k n ≡ b → (k < n → among k ns ≡ true) → among k ns ≡ true
+    go true q f = rw (eqb-true k n q) (not-false (among n ns) (either _ (unnamed n ns) e .0))
+    go false q f = f (let d : k ≡ n → ⊥ = eqb-false k n q in omega arith)
+
+pub among-unnamed : (n : ℕ) (ns : List ℕ) → ((k : ℕ) → k < n → among k ns ≡ true) → unnamed n ns ≡ false
+unfolding unnamed
+among-unnamed zero ns f = refl
+among-unnamed (suc n) ns f = neither {a = not (among n ns)} (rw (f n (omega arith))) (among-unnamed n ns (λ k h. f k (omega arith)))
