@@ -1,0 +1,81 @@
+-- `effects::deliver` meets its contract. Assumes nothing.
+use mathlib.Core.Path.{_≡_, sym, ap, _∙_}
+use native.Mathlib.Omega.{arith}
+use borrow.Author.Needs.{needs, sfits-of}
+use mir.Syntax.{w32}
+use mir.Val.{ofZ}
+use denote.Ref.{now}
+use Rattle.event.specs.Event.{deliver}
+use Rattle.event.specs.Step.{refusal}
+use Rattle.effects.proofs.Refusals.{turned-by, done, Pair, pair}
+use Rattle.effects.proofs.deliver.Statement.{statement}
+use Rattle.effects.proofs.deliver.Tie as tie
+
+passes : (c : tie.Else1) → refusal (now (c .before .before .before .args .net)) (deliver (c .before .before .before .args .a) (c .before .before .before .args .b)) ≡ 0
+passes c = sym (ap (ofZ w32) (c .before .message-refusal .ensures)) ∙ c .if1 .left
+
+two : (c : tie.Else1) → Pair (c .before .before .before .args .a) (c .before .before .before .args .b)
+two c = pair _ _ _ (passes c)
+
+message-refusal-requires : tie.Need-message-refusal-requires
+message-refusal-requires c κs = search needs
+
+answered-requires : tie.Need-answered-requires
+answered-requires c κs = search needs
+
+same-length : tie.Need-same-length
+same-length c = search needs
+
+returns : tie.Need-returns
+returns c =
+    turned-by _ _ _ (c .before .before .message-refusal .result) (sfits-of (c .before .before .message-refusal .ok)) (c .before .before .message-refusal .ensures) (c .before .if1 .taken) (c .answered .ensures)
+
+pending-to-requires : tie.Need-pending-to-requires
+pending-to-requires c κs = let p = two c in omega arith
+
+heard-from-requires : tie.Need-heard-from-requires
+heard-from-requires c κs = let p = two (c .before) in omega arith
+
+add-copy-row : tie.Need-add-copy-row
+add-copy-row c = search needs
+
+add-copy-row-2 : tie.Need-add-copy-row-2
+add-copy-row-2 c = search needs
+
+copy-row-requires : tie.Need-copy-row-requires
+copy-row-requires c κs =
+    let p = two (c .before .before .before) in
+    (omega (arith, c .before .before .pending-to .ensures), omega (arith, c .before .heard-from .ensures), λ i j h k e. omega (arith, c .before .before .pending-to .ensures, c .before .heard-from .ensures))
+
+clear-row-requires : tie.Need-clear-row-requires
+clear-row-requires c κs = let p = two (c .before .before .before .before .before .before) in omega (arith, c .before .before .before .before .heard-from .ensures, c .before .before .before .before .before .pending-to .ensures)
+
+answered-requires-2 : tie.Need-answered-requires-2
+answered-requires-2 c κs = search needs
+
+same-length-2 : tie.Need-same-length-2
+same-length-2 c = search needs
+
+returns-2 : tie.Need-returns-2
+returns-2 c =
+    done _ _ _ _ (passes (c .before .before .before .before .before .before .before .before .before))
+    (λ main. c .before .before .clear-row .ensures ∙ rw (c .before .before .before .before .before .copy-row .ensures, c .before .before .before .before .before .before .before .heard-from .ensures, c .before .before .before .before .before .before .before .before .pending-to .ensures))
+    (λ main. c .answered2 .ensures)
+
+pub deliver-spec : {M : Type 1} → statement M
+deliver-spec =
+    tie.close
+    (tie.spec
+    message-refusal-requires
+    answered-requires
+    same-length
+    returns
+    pending-to-requires
+    heard-from-requires
+    add-copy-row
+    add-copy-row-2
+    copy-row-requires
+    clear-row-requires
+    answered-requires-2
+    same-length-2
+    returns-2)

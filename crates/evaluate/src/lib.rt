@@ -1,0 +1,384 @@
+// The evaluator of one round. Whatever goes round the cycle is a whole number or a thin reference.
+//
+// `t`: a word a node. `u`: the variables of the reps under each node. `here`: the device's own cells 0 to 272.
+// `st`: the state (crate step). `env`: the parameters. `n`: the node.
+ghost use mathlib.Core.Path.{_≡_};
+ghost use mathlib.Core.Bool.{true, false};
+ghost use Prim.Native.Nat.{_<_, _≤_};
+ghost use lib.IntN.{pos};
+ghost use Rattle.domain.specs.Held.{held};
+ghost use Rattle.round.specs.Round.{arguments, folded, eval};
+ghost use Rattle.words.specs.Word.{form, word};
+ghost use Rattle.step.specs.State.{stateOf, faultOf, Gives, GivesField, GivesSide};
+ghost use Rattle.words.specs.Trees.{treeAt};
+ghost use Rattle.evaluate.specs.Asked.{argOf, Number, IsField, Argument, Inside};
+
+// A constant, a parameter or a variable.
+fn leaf(
+    t: &[u64; 256],
+    u: &[u16; 256],
+    here: &[i32; 273],
+    st: &mut [i32; 64],
+    env: &[i32; 4],
+    n: u16,
+) -> i32
+    requires { ⌜ (Number (now t) (now u) (now st) n) × (form (word (now t) n) < 3) ⌝ }
+    ensures { λ r. ⌜ Gives (eval (now (here .entry)) (treeAt (now (t .entry)) n) (now (env .entry)) (stateOf (now (st .entry)))) r (now (st .exit)) ⌝ }
+{
+    let i = n as usize;
+    let w = t[i];
+    let kind = step::form_of(w);
+    if kind == 0 {
+        return step::constant_of(w);
+    }
+    let p = step::item_of(w) as usize;
+    if kind == 1 {
+        return env[p];
+    }
+    st[p]
+}
+
+// ---- the cycle: number_at, other_at, operand, argument, call, fold_by, field_at, side
+
+// A node that gives a number: a leaf in place, any other by its own walk.
+fn operand(
+    t: &[u64; 256],
+    u: &[u16; 256],
+    here: &[i32; 273],
+    st: &mut [i32; 64],
+    env: &[i32; 4],
+    n: u16,
+) -> i32
+    requires { ⌜ Number (now t) (now u) (now st) n ⌝ }
+    ensures { λ r. ⌜ Gives (eval (now (here .entry)) (treeAt (now (t .entry)) n) (now (env .entry)) (stateOf (now (st .entry)))) r (now (st .exit)) ⌝ }
+{
+    let i = n as usize;
+    if step::form_of(t[i]) < 3 {
+        return leaf(t, u, here, st, env, n);
+    }
+    number_at(t, u, here, st, env, n)
+}
+
+// Operator, if and call; the other kinds are in `other_at`.
+fn number_at(
+    t: &[u64; 256],
+    u: &[u16; 256],
+    here: &[i32; 273],
+    st: &mut [i32; 64],
+    env: &[i32; 4],
+    n: u16,
+) -> i32
+    requires { ⌜ Number (now t) (now u) (now st) n ⌝ }
+    ensures { λ r. ⌜ Gives (eval (now (here .entry)) (treeAt (now (t .entry)) n) (now (env .entry)) (stateOf (now (st .entry)))) r (now (st .exit)) ⌝ }
+{
+    let i = n as usize;
+    let w = t[i];
+    let kind = step::form_of(w);
+    match kind {
+        3 => {
+            let l = step::first(w);
+            let r = step::second(w);
+            let x = operand(t, u, here, st, env, l);
+            if st[32] != 0 {
+                return 0;
+            }
+            let y = operand(t, u, here, st, env, r);
+            if st[32] != 0 {
+                return 0;
+            }
+            step::number_op(st, n, step::item_of(w), x, y)
+        }
+        6 => {
+            let x = operand(t, u, here, st, env, step::first(w));
+            if st[32] != 0 {
+                return 0;
+            }
+            let a = step::second(w);
+            let b = step::third(w);
+            if x == 1 {
+                let j = b as usize;
+                step::erase(st, u[j]);
+                operand(t, u, here, st, env, a)
+            } else {
+                let j = a as usize;
+                step::erase(st, u[j]);
+                operand(t, u, here, st, env, b)
+            }
+        }
+        9 => {
+            let k = step::count_of(w);
+            let a = argument(t, u, here, st, env, k > 0, step::first(w));
+            if st[32] != 0 {
+                return 0;
+            }
+            let b = argument(t, u, here, st, env, k > 1, step::second(w));
+            if st[32] != 0 {
+                return 0;
+            }
+            let c = argument(t, u, here, st, env, k > 2, step::third(w));
+            if st[32] != 0 {
+                return 0;
+            }
+            let d = argument(t, u, here, st, env, k > 3, step::fourth(w));
+            if st[32] != 0 {
+                return 0;
+            }
+            call(t, u, here, st, n, step::body_of(w), a, b, c, d)
+        }
+        _ => other_at(t, u, here, st, env, n),
+    }
+}
+
+fn other_at(
+    t: &[u64; 256],
+    u: &[u16; 256],
+    here: &[i32; 273],
+    st: &mut [i32; 64],
+    env: &[i32; 4],
+    n: u16,
+) -> i32
+    requires { ⌜ (Number (now t) (now u) (now st) n) × ((form (word (now t) n) ≡ 3 → ⊥) × ((form (word (now t) n) ≡ 6 → ⊥) × (form (word (now t) n) ≡ 9 → ⊥))) ⌝ }
+    ensures { λ r. ⌜ Gives (eval (now (here .entry)) (treeAt (now (t .entry)) n) (now (env .entry)) (stateOf (now (st .entry)))) r (now (st .exit)) ⌝ }
+{
+    let i = n as usize;
+    let w = t[i];
+    let kind = step::form_of(w);
+    match kind {
+        4 => {
+            let s = operand(t, u, here, st, env, step::first(w));
+            if st[32] != 0 {
+                return 0;
+            }
+            step::lit_of(here[16], s)
+        }
+        5 => {
+            let v = step::item_of(w) as usize;
+            let x = operand(t, u, here, st, env, step::first(w));
+            if st[32] != 0 {
+                return 0;
+            }
+            let old = st[v];
+            if old == -2147483648 {
+                st[v] = x;
+                return x;
+            }
+            let y = operand(t, u, here, st, env, step::second(w));
+            if st[32] != 0 {
+                return 0;
+            }
+            let kept = y;
+            st[v] = kept;
+            y
+        }
+        7 => {
+            let c = step::first(w);
+            let a = step::second(w);
+            let b = step::third(w);
+            let y = operand(t, u, here, st, env, a);
+            if st[32] != 0 {
+                return 0;
+            }
+            let z = operand(t, u, here, st, env, b);
+            if st[32] != 0 {
+                return 0;
+            }
+            let x = operand(t, u, here, st, env, c);
+            if st[32] != 0 {
+                return 0;
+            }
+            if x == 1 {
+                return y;
+            }
+            z
+        }
+        8 => {
+            let x = operand(t, u, here, st, env, step::first(w));
+            if st[32] != 0 {
+                return 0;
+            }
+            let f = field_at(t, u, here, st, env, step::second(w));
+            if st[32] != 0 {
+                return 0;
+            }
+            fold_by(t, u, here, st, n, step::body_of(w), x, f)
+        }
+        10 => {
+            let x = operand(t, u, here, st, env, step::first(w));
+            if st[32] != 0 {
+                return 0;
+            }
+            let f = field_at(t, u, here, st, env, step::second(w));
+            if st[32] != 0 {
+                return 0;
+            }
+            step::fold_op(st, n, step::item_of(w), x, f)
+        }
+        _ => leaf(t, u, here, st, env, n),
+    }
+}
+
+// An argument of a call, 0 where the definition has fewer.
+fn argument(
+    t: &[u64; 256],
+    u: &[u16; 256],
+    here: &[i32; 273],
+    st: &mut [i32; 64],
+    env: &[i32; 4],
+    there: bool,
+    n: u16,
+) -> i32
+    requires { ⌜ Argument (now t) (now u) (now st) there n ⌝ }
+    ensures { λ r. ⌜ Gives (eval (now (here .entry)) (argOf (now (t .entry)) there n) (now (env .entry)) (stateOf (now (st .entry)))) r (now (st .exit)) ⌝ }
+{
+    if there {
+        return operand(t, u, here, st, env, n);
+    }
+    0
+}
+
+// A definition's body, below the node n that calls it.
+fn call(
+    t: &[u64; 256],
+    u: &[u16; 256],
+    here: &[i32; 273],
+    st: &mut [i32; 64],
+    n: u16,
+    e: u16,
+    a: i32,
+    b: i32,
+    c: i32,
+    d: i32,
+) -> i32
+    requires { ⌜ (Number (now t) (now u) (now st) e) × (e < n) ⌝ }
+    ensures { λ r. ⌜ Gives (eval (now (here .entry)) (treeAt (now (t .entry)) e) (arguments a b c d) (stateOf (now (st .entry)))) r (now (st .exit)) ⌝ }
+{
+    let env = [a, b, c, d];
+    number_at(t, u, here, st, &env, e)
+}
+
+// A field folded by a definition, lowest device first.
+fn fold_by(
+    t: &[u64; 256],
+    u: &[u16; 256],
+    here: &[i32; 273],
+    st: &mut [i32; 64],
+    n: u16,
+    e: u16,
+    from: i32,
+    f: domain::Held,
+) -> i32
+    requires { ⌜ (Number (now t) (now u) (now st) e) × (e < n) ⌝ }
+    ensures { λ r. ⌜ Gives (folded (λ x y s. eval (now (here .entry)) (treeAt (now (t .entry)) e) (arguments x y (pos 0) (pos 0)) s) (held f) from (stateOf (now (st .entry)))) r (now (st .exit)) ⌝ }
+{
+    let mut acc = from;
+    let mut rest = f.dom;
+    let mut left = domain::size(rest);
+    while left > 0 {
+        let k = domain::lowest(rest);
+        rest = domain::without(rest);
+        left -= 1;
+        let v = f.cells[k];
+        acc = call(t, u, here, st, n, e, acc, v, 0, 0);
+        if st[32] != 0 {
+            return 0;
+        }
+    }
+    acc
+}
+
+// A node that gives a field.
+fn field_at(
+    t: &[u64; 256],
+    u: &[u16; 256],
+    here: &[i32; 273],
+    st: &mut [i32; 64],
+    env: &[i32; 4],
+    n: u16,
+) -> domain::Held
+    requires { ⌜ IsField (now t) (now u) (now st) n ⌝ }
+    ensures { λ r. ⌜ GivesField (eval (now (here .entry)) (treeAt (now (t .entry)) n) (now (env .entry)) (stateOf (now (st .entry)))) r (now (st .exit)) ⌝ }
+{
+    let i = n as usize;
+    let w = t[i];
+    let kind = step::form_of(w);
+    match kind {
+        16 => {
+            let x = operand(t, u, here, st, env, step::first(w));
+            if st[32] != 0 {
+                return domain::no_field();
+            }
+            let slot = step::item_of(w) as usize;
+            st[16 + slot] = x;
+            step::heard_of(here, slot)
+        }
+        17 => {
+            let slot = step::item_of(w) as usize;
+            st[16 + slot] = 0;
+            step::range_of(here, slot)
+        }
+        18 => {
+            let x = operand(t, u, here, st, env, step::first(w));
+            if st[32] != 0 {
+                return domain::no_field();
+            }
+            let a = step::second(w);
+            let b = step::third(w);
+            if x == 1 {
+                let k = b as usize;
+                step::erase(st, u[k]);
+                field_at(t, u, here, st, env, a)
+            } else {
+                let k = a as usize;
+                step::erase(st, u[k]);
+                field_at(t, u, here, st, env, b)
+            }
+        }
+        _ => {
+            let l = side(t, u, here, st, env, step::first(w));
+            if st[32] != 0 {
+                return domain::no_field();
+            }
+            let r = side(t, u, here, st, env, step::second(w));
+            if st[32] != 0 {
+                return domain::no_field();
+            }
+            step::field_op(st, n, step::item_of(w), l, r)
+        }
+    }
+}
+
+// A side of an operator that gives a field: a number is at each device.
+fn side(
+    t: &[u64; 256],
+    u: &[u16; 256],
+    here: &[i32; 273],
+    st: &mut [i32; 64],
+    env: &[i32; 4],
+    n: u16,
+) -> domain::Held
+    requires { ⌜ Inside (now t) (now u) (now st) n ⌝ }
+    ensures { λ r. ⌜ GivesSide (eval (now (here .entry)) (treeAt (now (t .entry)) n) (now (env .entry)) (stateOf (now (st .entry)))) (form (word (now (t .entry)) n)) r (now (st .exit)) ⌝ }
+{
+    let i = n as usize;
+    if step::form_of(t[i]) > 15 {
+        return field_at(t, u, here, st, env, n);
+    }
+    let v = operand(t, u, here, st, env, n);
+    domain::spread(v)
+}
+
+// Node main of a sound table, in a device with the cells `here`, with no parameters.
+pub fn evaluate(
+    t: &[u64; 256],
+    u: &[u16; 256],
+    here: &[i32; 273],
+    st: &mut [i32; 64],
+    main: u16,
+) -> i32
+    requires { ⌜ Number (now t) (now u) (now st) main ⌝ }
+    ensures { λ r. ⌜ Gives (eval (now (here .entry)) (treeAt (now (t .entry)) main) (arguments (pos 0) (pos 0) (pos 0) (pos 0)) (stateOf (now (st .entry)))) r (now (st .exit)) ⌝ }
+{
+    let z: i32 = 0;
+    let env = [z; 4];
+    number_at(t, u, here, st, &env, main)
+}

@@ -1,0 +1,308 @@
+-- What holds of the table from field to field: it is good, and its marks say what the table that it stands for names.
+use mathlib.Core.Path.{_≡_, refl, sym, _∙_, ap}
+use mathlib.Core.Logic.{_⊎_, inl, inr}
+use mathlib.Core.Bool.{Bool, true, false, cond, _||_, or-assoc}
+use mathlib.Core.List.{List, [], _∷_, _++_}
+use Prim.Native.Nat.{ℕ, zero, suc, _+_, _≤_, _<_}
+use native.Mathlib.Omega.{arith}
+use lib.ListN.{length, getD, drop, set, replicate, length-set, length-drop, length-replicate, getD-replicate}
+use lib.Seq.{getD-set-same, getD-set-other}
+use lib.Dec.{eqb, leb}
+use borrow.Author.Tests.{eqb-true, eqb-false, eq-eqb, leb-false}
+use Rattle.program.specs.Table as program
+use Rattle.program.specs.Table.{Item, child, slot, keeps, among, beyond, numbers, allNumbers, bodies, valuesIn, definitionAt, withNode, withDefinition}
+use Rattle.program.proofs.Items.{same-items}
+use Rattle.program.proofs.Tests.{either, second}
+use Rattle.nodes.specs.declared.Node.{Node}
+use Rattle.nodes.specs.Agrees.{Agree}
+use Rattle.nodes.specs.Body.{leadOf, widthOf, kidsOf, itemOf, constantOf, made}
+use Rattle.nodes.specs.Marked.{marked, markIf}
+use Rattle.nodes.specs.Ranges.{Ranges}
+use Rattle.nodes.specs.Values.{nodeOf}
+use Rattle.nodes.proofs.Items.{same-kids, few-kids, in-ranges}
+use Rattle.nodes.proofs.Body.{node-made, node-children, node-slots, node-keeps}
+use Rattle.nodes.proofs.Marks.{same, among-append, set-agrees, if-agrees, marked-agrees}
+use Rattle.rows.specs.Shows.{Shows}
+use Rattle.rows.proofs.Clear.{NodeClear, DefinitionClear}
+use Rattle.load.specs.declared.Table.{Table}
+use Rattle.load.specs.Loads.{paired, tableOf, nodeAt, noNode, GoodNode, Good}
+use Rattle.load.specs.Steps.{emptyTable, put, addKind, define}
+use Rattle.load.proofs.Shown.{shown-nodes, shown-put, shown-definitions, shown-definition, shown-define, among-numbers, among-bodies}
+
+pub record State (t : Table) : Type 0 where
+  pub good : Good t
+  pub named : Agree (t .marks .named) (program.named (tableOf t))
+  pub slots : Agree (t .marks .slots) (allNumbers slot (tableOf t .nodes))
+  pub kept : Agree (t .marks .kept) (allNumbers keeps (tableOf t .nodes))
+
+pub shows-of : (t : Table) → State t → Shows (t .n) (t .defs) (t .counts) (t .marks) (tableOf t)
+shows-of t st =
+    let a = st .good .n in
+    let b = st .good .defs in
+    let c : t .defs ≤ length (t .counts) = omega (arith, st .good .longCounts) in
+    let d : t .defs ≤ length (t .bodies) = omega (arith, st .good .longBodies) in
+    record {
+      nodes = shown-nodes t (omega (arith, st .good .longNodes));
+      few = a;
+      definitions = shown-definitions t c d;
+      parameters = λ i h. sym (ap (λ (x : program.Definition). x .count) (shown-definition t c d i program.noDefinition h));
+      named = st .named;
+      slots = st .slots;
+      kept = st .kept;
+    }
+
+-- the table before any field
+none-marked : Agree (replicate 256 false) []
+unfolding among
+none-marked = record { long = length-replicate 256 false; each = λ k h. getD-replicate 256 k false false h }
+
+pub beginning : State emptyTable
+unfolding tableOf paired allNumbers bodies
+beginning =
+    record {
+      good = record {
+        longNodes = length-replicate 256 noNode;
+        longCounts = length-replicate {A = ℕ} 256 0;
+        longBodies = length-replicate {A = ℕ} 256 0;
+        n = omega arith;
+        defs = omega arith;
+        nodes = λ i h. absurd (omega arith);
+        counts = λ d h. absurd (omega arith);
+        bodies = λ d h. absurd (omega arith);
+      };
+      named = none-marked;
+      slots = none-marked;
+      kept = none-marked;
+    }
+
+pub empty-shown : tableOf emptyTable ≡ record { nodes = []; definitions = [] }
+unfolding tableOf paired
+empty-shown = refl
+
+-- a number of a list whose numbers are all below a bound
+below-at : (n : ℕ) (ks : List ℕ) (j : ℕ) → beyond n ks ≡ false → j < length ks → getD ks j 0 < n
+unfolding beyond
+below-at n [] j e h = absurd (omega arith)
+below-at n (k ∷ ks) zero e h = leb-false n k (either (leb n k) _ e .0)
+below-at n (k ∷ ks) (suc j) e h = below-at n ks j (either (leb n k) _ e .1) (omega arith)
+
+first-four : (ks : List ℕ) (j : ℕ) → j < 4 → getD (getD ks 0 0 ∷ getD ks 1 0 ∷ getD ks 2 0 ∷ getD ks 3 0 ∷ []) j 0 ≡ getD ks j 0
+first-four ks zero h = refl
+first-four ks (suc zero) h = refl
+first-four ks (suc (suc zero)) h = refl
+first-four ks (suc (suc (suc zero))) h = refl
+first-four ks (suc (suc (suc (suc j)))) h = absurd (omega arith)
+
+-- a call's item is its definition
+call-item : (kind : ℕ) (s : List ℕ) → kind ≡ 12 → itemOf (leadOf kind) s ≡ getD s 0 0
+unfolding itemOf
+call-item kind s e = rw e
+
+module _ (t : Table) (st : State t) (kind : ℕ) (s : List ℕ) (cl : NodeClear kind s (t .n) (t .defs) (getD (t .counts) (getD s 0 0) 0) (t .marks)) where
+  abbrev l : ℕ
+  l = leadOf kind
+
+  abbrev ks : List ℕ
+  ks = drop (widthOf kind) s
+
+  -- the parameters of the definition called, in the loaded table and in the one that it stands for
+  abbrev count : ℕ
+  count = getD (t .counts) (getD s 0 0) 0
+
+  abbrev count′ : ℕ
+  count′ = definitionAt (tableOf t) (getD s 0 0) .count
+
+  abbrev x : Node
+  x = made kind l (kidsOf kind count) s ks
+
+  abbrev y : program.Node
+  y = program.nodeOf (tableOf t) kind s
+
+  same-count : kind ≡ 12 → count ≡ count′
+  same-count q = shows-of t st .parameters (getD s 0 0) (cl .defined q)
+
+  few : kidsOf kind count ≤ 4
+  few = few-kids kind count (cl .known) (λ q. st .good .counts (getD s 0 0) (cl .defined q))
+
+  right′ : length s ≡ widthOf kind + kidsOf kind count′
+  right′ = cl .right ∙ ap (λ (k : ℕ). widthOf kind + k) (same-kids kind count count′ (cl .known) same-count)
+
+  -- the node that is put is the one that program puts
+  pub put-shown : tableOf (addKind t kind s) ≡ withNode (tableOf t) y
+  put-shown =
+      let room = cl .room in
+      shown-put t x l ks (omega (arith, st .good .longNodes))
+      ∙ ap (withNode (tableOf t))
+      (node-made kind count s (cl .known) (cl .right) few
+      ∙ ap (λ (is : List Item). record { kind = kind; values = valuesIn is s }) (same-items kind count count′ (cl .known) same-count))
+
+  bound : t .n ≤ 256
+  bound = st .good .n
+
+  put-named : Agree (marked (t .marks .named) ks) (program.named (withNode (tableOf t) y))
+  put-named = same (program.named (withNode (tableOf t) y)) (marked-agrees (t .n) ks bound (cl .given) (st .named)) of
+    where
+      of : (k : ℕ) → among k (ks ++ program.named (tableOf t)) ≡ among k (program.named (withNode (tableOf t) y))
+      of k =
+          among-append k ks (program.named (tableOf t))
+          ∙ ap (λ (b : Bool). among k ks || b) (among-append k (allNumbers child (tableOf t .nodes)) (bodies (tableOf t .definitions)))
+          ∙ sym (or-assoc (among k ks) (among k (allNumbers child (tableOf t .nodes))) (among k (bodies (tableOf t .definitions))))
+          ∙ sym (among-append k (allNumbers child (tableOf t .nodes ++ y ∷ [])) (bodies (tableOf t .definitions))
+          ∙ ap (λ (b : Bool). b || among k (bodies (tableOf t .definitions)))
+          (among-numbers k child (tableOf t .nodes) y
+          ∙ ap (λ (ns : List ℕ). among k ns || among k (allNumbers child (tableOf t .nodes))) (node-children kind count′ s (cl .known) right′)))
+
+  put-item : {m : List Bool} (j : Item) (c : ℕ) → (l ≡ c → itemOf l s < 256) → numbers j y ≡ cond (eqb l c) (itemOf l s ∷ []) []
+      → Agree m (allNumbers j (tableOf t .nodes)) → Agree (markIf (eqb l c) (itemOf l s) m) (allNumbers j (tableOf t .nodes ++ y ∷ []))
+  put-item {m} j c h e a =
+      same (allNumbers j (tableOf t .nodes ++ y ∷ [])) (if-agrees (eqb l c) (itemOf l s) (λ q. h (eqb-true l c q)) a)
+      (λ k. among-append k (cond (eqb l c) (itemOf l s ∷ []) []) (allNumbers j (tableOf t .nodes))
+      ∙ ap (λ (ns : List ℕ). among k ns || among k (allNumbers j (tableOf t .nodes))) (sym e)
+      ∙ sym (among-numbers k j (tableOf t .nodes) y))
+
+  range : Ranges l (itemOf l s) (constantOf l s)
+  range = in-ranges l (itemOf l s) (constantOf l s) (cl .range)
+
+  low : (l ≡ 5) ⊎ (l ≡ 4) → itemOf l s < 256
+  low (inl q) = let h = range .slot q in omega arith
+  low (inr q) = let h = range .keeps q in omega arith
+
+  new-node : GoodNode (addKind t kind s) (t .n) x
+  unfolding put made
+  new-node =
+      record {
+        kind = cl .known;
+        kids = same-kids kind count (getD (t .counts) (itemOf l s) 0) (cl .known) (λ q. ap (λ (d : ℕ). getD (t .counts) d 0) (sym (call-item kind s q)));
+        few = few;
+        range = range;
+        children = λ j h. rw (first-four ks j (let f = few in omega arith))
+            (below-at (t .n) ks j (cl .given) (let r = cl .right in omega (arith, length-drop (widthOf kind) s)));
+        definition = λ q. let d : itemOf l s < t .defs = leb-false (t .defs) (itemOf l s) (second (eqb l 7) _ (cl .definition) (eq-eqb l 7 q)) in
+            (d, st .good .bodies (itemOf l s) d);
+      }
+
+  put-nodes : (i : ℕ) → i < t .n + 1 → GoodNode (addKind t kind s) i (nodeAt (addKind t kind s) i)
+  unfolding put
+  put-nodes i h = go (eqb i (t .n)) refl
+    where
+      go : (b : Bool) → eqb i (t .n) ≡ b → GoodNode (addKind t kind s) i (nodeAt (addKind t kind s) i)
+      go true q =
+          let e : i ≡ t .n = eqb-true i (t .n) q in
+          let room = cl .room in
+          rw (e, getD-set-same (t .nodes) (t .n) x noNode (omega (arith, st .good .longNodes))) new-node
+      go false q =
+          let d : i ≡ t .n → ⊥ = eqb-false i (t .n) q in
+          let g = st .good .nodes i (omega arith) in
+          rw (getD-set-other (t .nodes) (t .n) i x noNode d)
+          (record { kind = g .kind; kids = g .kids; few = g .few; range = g .range; children = g .children; definition = g .definition })
+
+  pub put-state : State (addKind t kind s)
+  unfolding put made
+  put-state =
+      let room = cl .room in
+      record {
+        good = record {
+          longNodes = length-set (t .nodes) (t .n) x ∙ st .good .longNodes;
+          longCounts = st .good .longCounts;
+          longBodies = st .good .longBodies;
+          n = omega arith;
+          defs = st .good .defs;
+          nodes = put-nodes;
+          counts = st .good .counts;
+          bodies = λ d h. let b = st .good .bodies d h in omega arith;
+        };
+        named = rw put-shown put-named;
+        slots = rw put-shown (put-item slot 5 (λ q. low (inl q)) (node-slots kind count′ s (cl .known) right′) (st .slots));
+        kept = rw put-shown (put-item keeps 4 (λ q. low (inr q)) (node-keeps kind count′ s (cl .known) right′) (st .kept));
+      }
+
+-- one definition more
+module _ (t : Table) (st : State t) (b : List ℕ) (cl : DefinitionClear b (t .n) (t .defs)) where
+  abbrev c : ℕ
+  c = getD b 0 0
+
+  abbrev body : ℕ
+  body = getD b 1 0
+
+  room : t .defs < 256
+  room = let r = cl .room in omega arith
+
+  inCounts : t .defs < length (t .counts)
+  inCounts = omega (arith, st .good .longCounts, room)
+
+  inBodies : t .defs < length (t .bodies)
+  inBodies = omega (arith, st .good .longBodies, room)
+
+  pub define-shown : tableOf (define t b) ≡ withDefinition (tableOf t) b
+  define-shown = shown-define t b inCounts inBodies
+
+  define-named : Agree (set (t .marks .named) body true) (program.named (withDefinition (tableOf t) b))
+  unfolding among
+  define-named =
+      let given = cl .given in
+      let bound = st .good .n in
+      same (program.named (withDefinition (tableOf t) b)) (set-agrees body (omega arith) (st .named)) of
+    where
+      order : (p a d : Bool) → (p || (a || d)) ≡ (a || (d || (p || false)))
+      order true true d = refl
+      order true false true = refl
+      order true false false = refl
+      order false true d = refl
+      order false false true = refl
+      order false false false = refl
+
+      of : (k : ℕ) → among k (body ∷ program.named (tableOf t)) ≡ among k (program.named (withDefinition (tableOf t) b))
+      of k =
+          ap (λ (d : Bool). eqb k body || d) (among-append k (allNumbers child (tableOf t .nodes)) (bodies (tableOf t .definitions)))
+          ∙ order (eqb k body) (among k (allNumbers child (tableOf t .nodes))) (among k (bodies (tableOf t .definitions)))
+          ∙ sym (among-append k (allNumbers child (tableOf t .nodes)) (bodies (tableOf t .definitions ++ record { count = c; body = body } ∷ []))
+          ∙ ap (λ (d : Bool). among k (allNumbers child (tableOf t .nodes)) || d) (among-bodies k (tableOf t .definitions) (record { count = c; body = body })))
+
+  -- what holds of the new definition and of each old one holds of each
+  each : (P : ℕ → ℕ → Type 0) (xs : List ℕ) (v : ℕ) → t .defs < length xs → P (t .defs) v → ((d : ℕ) → d < t .defs → P d (getD xs d 0))
+      → (d : ℕ) → d < t .defs + 1 → P d (getD (set xs (t .defs) v) d 0)
+  each P xs v r p f d h = go (eqb d (t .defs)) refl
+    where
+      go : (q : Bool) → eqb d (t .defs) ≡ q → P d (getD (set xs (t .defs) v) d 0)
+      go true q = let e : d ≡ t .defs = eqb-true d (t .defs) q in rw (e, getD-set-same xs (t .defs) v 0 r) p
+      go false q = let e : d ≡ t .defs → ⊥ = eqb-false d (t .defs) q in rw (getD-set-other xs (t .defs) d v 0 e) (f d (omega arith))
+
+  old-node : (i : ℕ) (x : Node) → GoodNode t i x → GoodNode (define t b) i x
+  unfolding define
+  old-node i x g =
+      record {
+        kind = g .kind;
+        kids = g .kids ∙ same-kids (x .kind) (getD (t .counts) (x .item) 0) (getD (set (t .counts) (t .defs) c) (x .item) 0) (g .kind) call;
+        few = g .few;
+        range = g .range;
+        children = g .children;
+        definition = λ q.
+            let d = g .definition q .0 in
+            (omega arith, rw (getD-set-other (t .bodies) (t .defs) (x .item) body 0 (λ e. omega arith)) (g .definition q .1));
+      }
+    where
+      call : x .kind ≡ 12 → getD (t .counts) (x .item) 0 ≡ getD (set (t .counts) (t .defs) c) (x .item) 0
+      call q =
+          let l : leadOf (x .kind) ≡ 7 = ap leadOf q in
+          let d = g .definition l .0 in
+          sym (getD-set-other (t .counts) (t .defs) (x .item) c 0 (λ e. omega arith))
+
+  pub define-state : State (define t b)
+  unfolding define
+  define-state =
+      let r = cl .room in
+      record {
+        good = record {
+          longNodes = st .good .longNodes;
+          longCounts = length-set (t .counts) (t .defs) c ∙ st .good .longCounts;
+          longBodies = length-set (t .bodies) (t .defs) body ∙ st .good .longBodies;
+          n = st .good .n;
+          defs = omega arith;
+          nodes = λ i h. old-node i (nodeAt t i) (st .good .nodes i h);
+          counts = each (λ d v. v ≤ 4) (t .counts) c inCounts (cl .count) (st .good .counts);
+          bodies = each (λ d v. v < t .n) (t .bodies) body inBodies (cl .given) (st .good .bodies);
+        };
+        named = rw define-shown define-named;
+        slots = rw define-shown (st .slots);
+        kept = rw define-shown (st .kept);
+      }

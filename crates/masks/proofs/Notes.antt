@@ -1,0 +1,164 @@
+-- What a node's mask and mark are, from those of the nodes that it names. Assumes nothing.
+use mathlib.Core.Path.{_≡_, refl, sym, ap, subst, _∙_}
+use mathlib.Core.Bool.{Bool, true, false, cond, _||_, or-assoc, or-false, true≢false}
+use mathlib.Core.List.{List, [], _∷_, _++_, append-nil}
+use Prim.Native.Nat.{ℕ, _+_, _^_, _<_}
+use native.Mathlib.Omega.{arith}
+use lib.ListN.{length, getD, set, length-set}
+use lib.Seq.{getD-set-same, getD-set-other}
+use lib.Dec.{eqb, ltb}
+use borrow.Author.Count.{below-more}
+use borrow.Author.Tests.{eqb-true, ltb-true}
+use Rattle.program.specs.Table.{among}
+use Rattle.program.specs.Tree.{Expr, nothing, spatial}
+use Rattle.round.specs.Round.{reps}
+use Rattle.words.specs.Word.{form, item, word}
+use Rattle.words.specs.Trees.{treeAt}
+use Rattle.masks.specs.Formed.{nodes, width, operand, part, Formed}
+use Rattle.masks.specs.Masks.{hasBit, Mask, Masks, ownMask, hasBody, bodyMask, partMask, maskOf, Spatials, ownSpatial, partSpatial, spatialOf}
+use Rattle.masks.proofs.Bits.{no-bit, power-bit, or-bit}
+use Rattle.masks.proofs.Trees.{View, is-0, is-1, is-2, is-3, is-4, is-5, is-6, is-7, is-8, is-9, is-10, is-16, is-17, is-18, is-19, view}
+
+-- ---- what a node names can be looked up
+body-below : {ws : List ℕ} {n : ℕ} → Formed ws n → hasBody (word ws n) ≡ true → operand (word ws n) 4 < n
+body-below {ws} {n} f = go (eqb (form (word ws n)) 8) (eqb (form (word ws n)) 9) refl refl
+  where
+    go : (a b : Bool) → eqb (form (word ws n)) 8 ≡ a → eqb (form (word ws n)) 9 ≡ b → (a || b) ≡ true → operand (word ws n) 4 < n
+    go true b p q e = f .folds (eqb-true (form (word ws n)) 8 p)
+    go false true p q e = f .calls (eqb-true (form (word ws n)) 9 q)
+    go false false p q e = absurd (true≢false (sym e))
+
+module _ {ws : List ℕ} {n : ℕ} (l : n < nodes) (f : Formed ws n) where
+  pub asks-part : (j : ℕ) → j < 4 → (j < 4) × (j < width (word ws n) → operand (word ws n) j < nodes)
+  asks-part j h = (h, λ g. omega (arith, f .operands j h g))
+
+  pub asks-called : form (word ws n) ≡ 9 → operand (word ws n) 4 < nodes
+  asks-called h = omega (arith, f .calls h)
+
+  pub asks-body : hasBody (word ws n) ≡ true → operand (word ws n) 4 < nodes
+  asks-body h = omega (arith, body-below f h)
+
+-- ---- the variables of the reps under a node are its own, its body's and its operands'
+abbrev ownReps : ℕ → List ℕ
+ownReps w = cond (eqb (form w) 5) (item w ∷ []) []
+
+abbrev bodyTree : List ℕ → ℕ → Expr
+bodyTree ws w = cond (hasBody w) (treeAt ws (operand w 4)) nothing
+
+all-reps : {ws : List ℕ} {n w : ℕ} → View ws n w
+    → reps (treeAt ws n) ≡ ownReps w ++ (reps (bodyTree ws w) ++ (reps (part ws w 0) ++ (reps (part ws w 1) ++ (reps (part ws w 2) ++ reps (part ws w 3)))))
+unfolding reps width
+all-reps (is-0 h e) = rw (e, h)
+all-reps (is-1 h e) = rw (e, h)
+all-reps (is-2 h e) = rw (e, h)
+all-reps (is-3 h e) = rw (e, h) (simp append-nil)
+all-reps (is-4 h e) = rw (e, h) (simp append-nil)
+all-reps (is-5 h e) = rw (e, h) (simp append-nil)
+all-reps (is-6 h e) = rw (e, h) (simp append-nil)
+all-reps (is-7 h e) = rw (e, h) (simp append-nil)
+all-reps (is-8 h e) = rw (e, h) (simp append-nil)
+all-reps (is-9 h e) = rw (e, h)
+all-reps (is-10 h e) = rw (e, h) (simp append-nil)
+all-reps (is-16 h e) = rw (e, h) (simp append-nil)
+all-reps (is-17 h e) = rw (e, h)
+all-reps (is-18 h e) = rw (e, h) (simp append-nil)
+all-reps (is-19 h e) = rw (e, h) (simp append-nil)
+
+among-append : (v : ℕ) (a b : List ℕ) → among v (a ++ b) ≡ among v a || among v b
+unfolding among
+among-append v [] b = refl
+among-append v (n ∷ a) b = ap (λ (t : Bool). eqb v n || t) (among-append v a b) ∙ sym (or-assoc (eqb v n) (among v a) (among v b))
+
+module _ {ws us : List ℕ} {n : ℕ} (f : Formed ws n) (m : Masks ws us n) (v : ℕ) (l : v < 16) where
+  own-bit : (w : ℕ) → hasBit v (ownMask w) ≡ among v (ownReps w)
+  unfolding among
+  own-bit w = go (eqb (form w) 5)
+    where
+      go : (b : Bool) → hasBit v (cond b (2 ^ item w) 0) ≡ among v (cond b (item w ∷ []) [])
+      go true = power-bit (item w) v (omega arith) l ∙ sym (or-false (eqb v (item w)))
+      go false = no-bit v
+
+  named-bit : (b : Bool) (k : ℕ) → (b ≡ true → k < n) → hasBit v (cond b (getD us k 0) 0) ≡ among v (reps (cond b (treeAt ws k) nothing))
+  unfolding among reps
+  named-bit true k g = m .mask k (g refl) v l
+  named-bit false k g = no-bit v
+
+  part-bit : (j : ℕ) → j < 4 → hasBit v (partMask us (word ws n) j) ≡ among v (reps (part ws (word ws n) j))
+  part-bit j h = named-bit (ltb j (width (word ws n))) (operand (word ws n) j) (λ e. f .operands j h (ltb-true j (width (word ws n)) e))
+
+  body-bit : hasBit v (bodyMask us (word ws n)) ≡ among v (reps (bodyTree ws (word ws n)))
+  body-bit = named-bit (hasBody (word ws n)) (operand (word ws n) 4) (body-below f)
+
+  pub mask-bit : hasBit v (maskOf us (word ws n)) ≡ among v (reps (treeAt ws n))
+  unfolding maskOf
+  mask-bit =
+      simp (or-bit, own-bit (word ws n), body-bit, part-bit 0 (omega arith), part-bit 1 (omega arith), part-bit 2 (omega arith), part-bit 3 (omega arith))
+      (sym (ap (among v) (all-reps (view f)) ∙ simp among-append))
+
+-- ---- one more node noted
+set-more : {A : Type 0} (P : ℕ → A → Type 0) (l : List A) (i : ℕ) (a d : A) → i < length l
+    → ((k : ℕ) → k < i → P k (getD l k d)) → P i a → (k : ℕ) → k < i + 1 → P k (getD (set l i a) k d)
+set-more P l i a d h all here =
+    below-more (λ (k : ℕ). P k (getD (set l i a) k d)) i
+    (λ k g. subst (P k) (sym (getD-set-other l i k a d (λ e. omega arith))) (all k g))
+    (subst (P i) (sym (getD-set-same l i a d h)) here)
+
+pub masks-more : {ws us : List ℕ} {n m : ℕ} → n < nodes → Formed ws n → Masks ws us n → m ≡ maskOf us (word ws n) → Masks ws (set us n m) (n + 1)
+masks-more {ws} {us} {n} {m} h f s e =
+    record {
+      long = length-set us n m ∙ s .long;
+      mask = set-more (Mask ws) us n m 0 (omega (arith, s .long)) (s .mask) (λ v l. rw e (mask-bit f s v l));
+    }
+
+-- ---- a node is spatial by its form, by its body where it is a call, and by its operands
+abbrev calledTree : List ℕ → ℕ → Expr
+calledTree ws w = cond (eqb (form w) 9) (treeAt ws (operand w 4)) nothing
+
+all-spatial : {ws : List ℕ} {n w : ℕ} → View ws n w
+    → spatial (treeAt ws n)
+    ≡ ownSpatial w || (spatial (calledTree ws w) || (spatial (part ws w 0) || (spatial (part ws w 1) || (spatial (part ws w 2) || spatial (part ws w 3)))))
+unfolding spatial width
+all-spatial (is-0 h e) = rw (e, h)
+all-spatial (is-1 h e) = rw (e, h)
+all-spatial (is-2 h e) = rw (e, h)
+all-spatial (is-3 h e) = rw (e, h) (simp or-false)
+all-spatial (is-4 h e) = rw (e, h) (simp or-false)
+all-spatial (is-5 h e) = rw (e, h)
+all-spatial (is-6 h e) = rw (e, h) (simp (or-assoc, or-false))
+all-spatial (is-7 h e) = rw (e, h) (simp (or-assoc, or-false))
+all-spatial (is-8 h e) = rw (e, h) (simp or-false)
+all-spatial (is-9 h e) = rw (e, h) (simp or-assoc)
+all-spatial (is-10 h e) = rw (e, h) (simp or-false)
+all-spatial (is-16 h e) = rw (e, h)
+all-spatial (is-17 h e) = rw (e, h)
+all-spatial (is-18 h e) = rw (e, h) (simp (or-assoc, or-false))
+all-spatial (is-19 h e) = rw (e, h) (simp or-false)
+
+module _ {ws : List ℕ} {sp : List Bool} {n : ℕ} (f : Formed ws n) (m : Spatials ws sp n) where
+  named-mark : (b : Bool) (k : ℕ) → (b ≡ true → k < n) → cond b (getD sp k false) false ≡ spatial (cond b (treeAt ws k) nothing)
+  unfolding spatial
+  named-mark true k g = m .mark k (g refl)
+  named-mark false k g = refl
+
+  part-mark : (j : ℕ) → j < 4 → partSpatial sp (word ws n) j ≡ spatial (part ws (word ws n) j)
+  part-mark j h = named-mark (ltb j (width (word ws n))) (operand (word ws n) j) (λ e. f .operands j h (ltb-true j (width (word ws n)) e))
+
+  pub spatial-mark : spatialOf sp (word ws n) ≡ spatial (treeAt ws n)
+  unfolding spatialOf
+  spatial-mark =
+      rw (
+        named-mark (eqb (form (word ws n)) 9) (operand (word ws n) 4) (λ e. f .calls (eqb-true (form (word ws n)) 9 e)),
+        part-mark 0 (omega arith),
+        part-mark 1 (omega arith),
+        part-mark 2 (omega arith),
+        part-mark 3 (omega arith),
+      )
+      (sym (all-spatial (view f)))
+
+pub spatials-more : {ws : List ℕ} {sp : List Bool} {n : ℕ} {m : Bool} → n < nodes → Formed ws n → Spatials ws sp n → m ≡ spatialOf sp (word ws n)
+    → Spatials ws (set sp n m) (n + 1)
+spatials-more {ws} {sp} {n} {m} h f s e =
+    record {
+      long = length-set sp n m ∙ s .long;
+      mark = set-more (λ k t. t ≡ spatial (treeAt ws k)) sp n m false (omega (arith, s .long)) (s .mark) (e ∙ spatial-mark f s);
+    }

@@ -1,0 +1,33 @@
+-- `masks::width_of` meets its contract. Assumes nothing.
+use mathlib.Core.Path.{sym, _∙_}
+use borrow.Author.Tests.{eq-eqb, ne-eqb}
+use borrow.Author.Needs.{needs}
+use Rattle.words.specs.Word.{form}
+use Rattle.masks.specs.Formed.{width}
+use Rattle.masks.proofs.width_of.Statement.{statement}
+use Rattle.masks.proofs.width_of.Tie as tie
+
+form-of-requires : tie.Need-form-of-requires
+form-of-requires c κs = search needs
+
+cast-result : tie.Need-cast-result
+cast-result c = search needs
+
+returns : tie.Need-returns
+unfolding width
+returns c = rw (eq-eqb (form (c .before .before .args .w)) 9 (sym (c .before .form-of .ensures) ∙ c .if1 .taken))
+
+cast-result-2 : tie.Need-cast-result-2
+cast-result-2 c = search needs
+
+array-read-result : tie.Need-array-read-result
+array-read-result c = search needs
+
+returns-2 : tie.Need-returns-2
+unfolding width
+returns-2 c = rw (← c .before .form-of .ensures, ne-eqb (c .before .form-of .result) 9 (c .if1 .left))
+
+pub width-of-spec : {M : Type 1} → statement M
+width-of-spec =
+    tie.close
+    (tie.spec form-of-requires cast-result returns cast-result-2 array-read-result returns-2)

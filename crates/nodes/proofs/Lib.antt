@@ -1,0 +1,5 @@
+pub mod Pick
+pub mod Walk
+pub mod Items
+pub mod Marks
+pub mod Body

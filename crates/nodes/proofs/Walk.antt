@@ -1,0 +1,79 @@
+-- Walks over a list of numbers, one number at a time: what is found of the whole is found of the rest.
+use mathlib.Core.Path.{_≡_, sym, _∙_, ap}
+use mathlib.Core.Bool.{Bool, true, false, not, _||_}
+use mathlib.Core.List.{List, _∷_}
+use Prim.Native.Nat.{ℕ, zero, suc, _+_, _-_, _≤_, _<_}
+use native.Mathlib.Omega.{arith}
+use native.Mathlib.Numerals.{add-one}
+use lib.ListN.{length, getD, take, drop, set, drop-of-length-le, length-drop, List·getD-eq-default}
+use lib.Seq.{drop-cons, take-all, drop-length}
+use borrow.Author.Tests.{le-leb, lt-leb}
+use Rattle.program.specs.Table.{beyond}
+use Rattle.nodes.specs.Body.{leads, widths, kidCounts, leadOf, widthOf, kidsOf, shapeOf}
+use Rattle.nodes.specs.Marked.{takenIn, marked, unmarked}
+
+-- the rest begins with the number at hand
+pub here : (ks : List ℕ) (i k : ℕ) → i < length ks → k ≡ getD ks i 0 → drop i ks ≡ k ∷ drop (i + 1) ks
+here ks i k h e = drop-cons ks i 0 h ∙ cc (add-one i)
+
+module _ (ks : List ℕ) (i : ℕ) where
+  module _ (h : length ks ≤ i) where
+    pub none-beyond : (n : ℕ) → beyond n ks ≡ beyond n (drop i ks) → false ≡ beyond n ks
+    unfolding beyond
+    none-beyond n e = sym (e ∙ ap (beyond n) (drop-of-length-le ks h))
+
+    pub none-taken : (m₀ m : List Bool) → takenIn m₀ ks ≡ takenIn m (drop i ks) → false ≡ takenIn m₀ ks
+    unfolding takenIn
+    none-taken m₀ m e = sym (e ∙ ap (takenIn m) (drop-of-length-le ks h))
+
+    pub all-marked : (m₀ m : List Bool) → marked m₀ ks ≡ marked m (drop i ks) → m ≡ marked m₀ ks
+    unfolding marked
+    all-marked m₀ m e = sym (e ∙ ap (marked m) (drop-of-length-le ks h))
+
+  module _ (k : ℕ) (h : i < length ks) (q : k ≡ getD ks i 0) where
+    pub is-beyond : (n : ℕ) → beyond n ks ≡ beyond n (drop i ks) → n ≤ k → true ≡ beyond n ks
+    unfolding beyond
+    is-beyond n e l = sym (e ∙ ap (beyond n) (here ks i k h q) ∙ rw (le-leb n k l))
+
+    pub not-beyond : (n : ℕ) → beyond n ks ≡ beyond n (drop i ks) → k < n → beyond n ks ≡ beyond n (drop (i + 1) ks)
+    unfolding beyond
+    not-beyond n e l = e ∙ ap (beyond n) (here ks i k h q) ∙ rw (lt-leb n k l)
+
+    pub is-taken : (m₀ m : List Bool) → takenIn m₀ ks ≡ takenIn m (drop i ks) → getD m k false ≡ true → true ≡ takenIn m₀ ks
+    unfolding takenIn
+    is-taken m₀ m e t = sym (e ∙ ap (takenIn m) (here ks i k h q) ∙ rw t)
+
+    pub not-taken : (m₀ m : List Bool) → takenIn m₀ ks ≡ takenIn m (drop i ks) → getD m k false ≡ false
+        → takenIn m₀ ks ≡ takenIn (set m k true) (drop (i + 1) ks)
+    unfolding takenIn
+    not-taken m₀ m e t = e ∙ ap (takenIn m) (here ks i k h q) ∙ rw t
+
+    pub mark-next : (m₀ m : List Bool) → marked m₀ ks ≡ marked m (drop i ks) → marked m₀ ks ≡ marked (set m k true) (drop (i + 1) ks)
+    unfolding marked
+    mark-next m₀ m e = e ∙ ap (marked m) (here ks i k h q)
+
+-- from the bound down
+pub unmarked-at : (m : List Bool) (n j k : ℕ) → 0 < k → j ≡ k - 1 → unmarked n m ≡ unmarked k m → unmarked n m ≡ (not (getD m j false) || unmarked j m)
+unfolding unmarked
+unmarked-at m n j zero h q e = absurd (omega arith)
+unmarked-at m n j (suc k) h q e = let z : j ≡ k = omega arith in rw z e
+
+-- all that follows
+pub rest-all : (s : List ℕ) (n : ℕ) → take (length s - n) (drop n s) ≡ drop n s
+rest-all s n = take-all (length s - n) (drop n s) (omega (arith, length-drop n s))
+
+pub rest-none : (s : List ℕ) (n : ℕ) → length s < n → take (length s - length s) (drop (length s) s) ≡ drop n s
+rest-none s n h = let l : length s ≤ n = omega arith in rest-all s (length s) ∙ drop-length s ∙ sym (drop-of-length-le s l)
+
+pub no-shape : (kind count : ℕ) → 13 ≤ kind → record { lead = 0; width = 0; kids = 0 } ≡ shapeOf kind count
+unfolding shapeOf
+no-shape kind count h =
+    let l : leadOf kind ≡ 0 = List·getD-eq-default leads 0 h in
+    let w : widthOf kind ≡ 0 = List·getD-eq-default widths 0 h in
+    let k : kidsOf kind count ≡ 0 = List·getD-eq-default (kidCounts count) 0 h in
+    rw (l, w, k)
+
+pub unmarked-none : (m : List Bool) (n k : ℕ) → k ≤ 0 → unmarked n m ≡ unmarked k m → false ≡ unmarked n m
+unfolding unmarked
+unmarked-none m n zero h e = sym e
+unmarked-none m n (suc k) h e = absurd (omega arith)

@@ -1,0 +1,5 @@
+pub mod Body
+pub mod Marked
+pub mod Agrees
+pub mod Values
+pub mod Ranges

@@ -1,0 +1,22 @@
+-- Marks of numbers that are taken, near the code. Internal: `proofs/Marks.antt` proves that they say what program's lists of numbers say.
+use mathlib.Core.Bool.{Bool, true, false, not, cond, _||_}
+use mathlib.Core.List.{List, [], _∷_}
+use Prim.Native.Nat.{ℕ, zero, suc}
+use lib.ListN.{getD, set}
+
+-- some number is marked or stands twice
+unfoldable pub takenIn : List Bool → List ℕ → Bool
+takenIn m [] = false
+takenIn m (k ∷ ks) = getD m k false || takenIn (set m k true) ks
+
+unfoldable pub marked : List Bool → List ℕ → List Bool
+marked m [] = m
+marked m (k ∷ ks) = marked (set m k true) ks
+
+abbrev pub markIf : Bool → ℕ → List Bool → List Bool
+markIf on k m = cond on (set m k true) m
+
+-- some mark below the bound is not set
+unfoldable pub unmarked : ℕ → List Bool → Bool
+unmarked zero m = false
+unmarked (suc k) m = not (getD m k false) || unmarked k m

@@ -1,0 +1,83 @@
+-- What no refusal tells: each row's test, in the code's order.
+use mathlib.Core.Path.{_≡_, refl}
+use mathlib.Core.Bool.{Bool, true, false, cond, _&&_}
+use mathlib.Core.List.{List}
+use Prim.Native.Nat.{ℕ, suc, _+_, _≤_, _<_}
+use native.Mathlib.Omega.{arith}
+use lib.ListN.{length, getD, drop}
+use lib.Dec.{eqb, leb, ltb}
+use borrow.Author.Tests.{leb-false, ltb-false, eqb-true}
+use Rattle.program.specs.Table.{beyond}
+use Rattle.nodes.specs.Body.{leadOf, widthOf, kidsOf, itemOf, constantOf, inside}
+use Rattle.nodes.specs.Marked.{takenIn}
+use Rattle.rows.specs.declared.Marks.{Marks}
+use Rattle.rows.specs.Numbers.{orElse, callNumber, bodyNumber, nodeNumber, definitionNumber, mainNumber}
+
+passed : (b : Bool) (n : ℕ) {x : ℕ} → cond b (suc n) x ≡ 0 → (b ≡ false) × (x ≡ 0)
+passed true n e = absurd (omega arith)
+passed false n e = (refl, e)
+
+held : (b : Bool) (n : ℕ) {x : ℕ} → cond b x (suc n) ≡ 0 → (b ≡ true) × (x ≡ 0)
+held true n e = (refl, e)
+held false n e = absurd (omega arith)
+
+both : (a b : ℕ) → orElse a b ≡ 0 → (a ≡ 0) × (b ≡ 0)
+both a b e = go (eqb a 0) refl e
+  where
+    go : (t : Bool) → eqb a 0 ≡ t → cond t b a ≡ 0 → (a ≡ 0) × (b ≡ 0)
+    go true q e = (eqb-true a 0 q, e)
+    go false q e = absurd (borrow.Author.Tests.eqb-false a 0 q e)
+
+pub record NodeClear (kind : ℕ) (s : List ℕ) (n defs count : ℕ) (m : Marks) : Type 0 where
+  pub room : n < 256
+  pub known : kind < 13
+  pub defined : kind ≡ 12 → getD s 0 0 < defs
+  pub right : length s ≡ widthOf kind + kidsOf kind count
+  pub range : inside (leadOf kind) (itemOf (leadOf kind) s) (constantOf (leadOf kind) s) ≡ true
+  pub given : beyond n (drop (widthOf kind) s) ≡ false
+  pub definition : (eqb (leadOf kind) 7 && leb defs (itemOf (leadOf kind) s)) ≡ false
+  pub free : takenIn (m .named) (drop (widthOf kind) s) ≡ false
+
+call-clear : (kind : ℕ) (s : List ℕ) (defs : ℕ) → callNumber kind s defs ≡ 0 → kind ≡ 12 → getD s 0 0 < defs
+unfolding callNumber
+call-clear kind s defs e q = leb-false defs (getD s 0 0) (passed (leb defs (getD s 0 0)) 3 (passed (eqb (length s) 0) 0 (rw q at e) .1) .0)
+
+pub node-clear : (kind : ℕ) (s : List ℕ) (n defs count : ℕ) (m : Marks) → nodeNumber kind s n defs count m ≡ 0 → NodeClear kind s n defs count m
+unfolding nodeNumber bodyNumber
+node-clear kind s n defs count m e =
+    let a = passed (leb 256 n) 1 e in
+    let b = passed (leb 13 kind) 2 (a .1) in
+    let c = both (callNumber kind s defs) _ (b .1) in
+    let d = held (eqb (length s) (widthOf kind + kidsOf kind count)) 0 (c .1) in
+    let f = held (inside (leadOf kind) (itemOf (leadOf kind) s) (constantOf (leadOf kind) s)) 2 (d .1) in
+    let g = passed (beyond n (drop (widthOf kind) s)) 3 (f .1) in
+    let h = passed (eqb (leadOf kind) 7 && leb defs (itemOf (leadOf kind) s)) 3 (g .1) in
+    let i = passed (takenIn (m .named) (drop (widthOf kind) s)) 4 (h .1) in
+    record {
+      room = leb-false 256 n (a .0);
+      known = leb-false 13 kind (b .0);
+      defined = call-clear kind s defs (c .0);
+      right = eqb-true _ _ (d .0);
+      range = f .0;
+      given = g .0;
+      definition = h .0;
+      free = i .0;
+    }
+
+pub record DefinitionClear (b : List ℕ) (n defs : ℕ) : Type 0 where
+  pub room : defs < 32
+  pub count : getD b 0 0 ≤ 4
+  pub given : getD b 1 0 < n
+
+pub definition-clear : (b : List ℕ) (n defs : ℕ) (named : List Bool) → definitionNumber b n defs named ≡ 0 → DefinitionClear b n defs
+unfolding definitionNumber
+definition-clear b n defs named e =
+    let a = passed (leb 32 defs) 1 e in
+    let c = held (eqb (length b) 2) 0 (a .1) in
+    let d = passed (ltb 4 (getD b 0 0)) 2 (c .1) in
+    let f = passed (leb n (getD b 1 0)) 3 (d .1) in
+    record { room = leb-false 32 defs (a .0); count = ltb-false 4 (getD b 0 0) (d .0); given = leb-false n (getD b 1 0) (f .0) }
+
+pub main-clear : (b : List ℕ) (n : ℕ) (named : List Bool) → mainNumber b n named ≡ 0 → getD b 0 0 < n
+unfolding mainNumber
+main-clear b n named e = leb-false n (getD b 0 0) (passed (leb n (getD b 0 0)) 3 (held (eqb (length b) 1) 0 e .1) .0)

@@ -1,0 +1,53 @@
+-- The refusals of one field, near the code. Internal: `proofs/Rows.antt` proves that they are those of program's rows.
+use mathlib.Core.Bool.{Bool, false, cond, _&&_}
+use mathlib.Core.List.{List}
+use Prim.Native.Nat.{ℕ, _+_}
+use lib.ListN.{length, getD, drop}
+use lib.Dec.{eqb, leb, ltb}
+use Rattle.program.specs.Table.{beyond}
+use Rattle.nodes.specs.Body.{leadOf, widthOf, kidsOf, itemOf, constantOf, inside}
+use Rattle.nodes.specs.Marked.{takenIn}
+use Rattle.rows.specs.declared.Marks.{Marks}
+
+unfoldable pub callNumber : ℕ → List ℕ → ℕ → ℕ
+callNumber kind s defs = cond (eqb kind 12) (cond (eqb (length s) 0) 1 (cond (leb defs (getD s 0 0)) 4 0)) 0
+
+unfoldable pub itemTaken : ℕ → ℕ → List Bool → List Bool → Bool
+itemTaken lead item slots kept = cond (eqb lead 5) (getD slots item false) (cond (eqb lead 4) (getD kept item false) false)
+
+unfoldable pub bodyNumber : ℕ → List ℕ → List ℕ → ℕ → ℕ → Marks → ℕ
+bodyNumber lead s ks n defs m =
+    cond (inside lead (itemOf lead s) (constantOf lead s))
+    (cond (beyond n ks) 4
+    (cond (eqb lead 7 && leb defs (itemOf lead s)) 4
+    (cond (takenIn (m .named) ks) 5
+    (cond (itemTaken lead (itemOf lead s) (m .slots) (m .kept)) 5 0))))
+    3
+
+abbrev pub orElse : ℕ → ℕ → ℕ
+orElse a b = cond (eqb a 0) b a
+
+unfoldable pub nodeNumber : ℕ → List ℕ → ℕ → ℕ → ℕ → Marks → ℕ
+nodeNumber kind s n defs count m =
+    cond (leb 256 n) 2
+    (cond (leb 13 kind) 3
+    (orElse (callNumber kind s defs)
+    (cond (eqb (length s) (widthOf kind + kidsOf kind count)) (bodyNumber (leadOf kind) s (drop (widthOf kind) s) n defs m) 1)))
+
+unfoldable pub definitionNumber : List ℕ → ℕ → ℕ → List Bool → ℕ
+definitionNumber b n defs named =
+    cond (leb 32 defs) 2
+    (cond (eqb (length b) 2)
+    (cond (ltb 4 (getD b 0 0)) 3 (cond (leb n (getD b 1 0)) 4 (cond (getD named (getD b 1 0) false) 5 0)))
+    1)
+
+unfoldable pub mainNumber : List ℕ → ℕ → List Bool → ℕ
+mainNumber b n named = cond (eqb (length b) 1) (cond (leb n (getD b 0 0)) 4 (cond (getD named (getD b 0 0) false) 5 0)) 1
+
+unfoldable pub fieldNumber : ℕ → List ℕ → ℕ → ℕ → List ℕ → Marks → ℕ
+fieldNumber tag b n defs counts m =
+    cond (eqb tag 2) (definitionNumber b n defs (m .named))
+    (cond (eqb tag 3) (mainNumber b n (m .named))
+    (cond (eqb tag 1)
+    (cond (eqb (length b) 0) 1 (nodeNumber (getD b 0 0) (drop 1 b) n defs (getD counts (getD (drop 1 b) 0 0) 0) m))
+    1))

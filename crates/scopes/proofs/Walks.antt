@@ -1,0 +1,132 @@
+-- The lowest node that misreads in a tree, from its parts'; and in all trees of a table. Assumes nothing.
+use mathlib.Core.Path.{_≡_, refl, _∙_}
+use mathlib.Core.Bool.{Bool, true, false, cond, or-comm}
+use mathlib.Core.List.{List, [], _∷_, _++_, append-nil}
+use Prim.Native.Nat.{ℕ, min, _+_, _*_, _^_, _≤_, _<_}
+use native.Mathlib.Numerals.{add-one}
+use native.Mathlib.Omega.{arith}
+use lib.ListN.{getD, drop}
+use lib.Seq.{drop-cons, drop-length}
+use lib.Dec.{eqb, ltb}
+use lib.Bits.{bitOr}
+use borrow.Author.Tests.{lt-ltb, le-ltb}
+use Rattle.program.specs.Table.{Table, noDefinition, definitionAt, among}
+use Rattle.program.specs.Tree.{tree, misread}
+use Rattle.program.specs.Check.{lowest, misreadIn}
+use Rattle.words.specs.Word.{form, item, word}
+use Rattle.words.specs.Trees.{treeAt}
+use Rattle.masks.specs.Formed.{nodes, width, operand, part, Formed, AllFormed}
+use Rattle.masks.specs.Masks.{hasBit}
+use Rattle.masks.proofs.Bits.{no-bit, power-bit, or-bit}
+use Rattle.masks.proofs.Trees.{View, is-0, is-1, is-2, is-3, is-4, is-5, is-6, is-7, is-8, is-9, is-10, is-16, is-17, is-18, is-19, view}
+use Rattle.scopes.specs.Places.{found, At}
+use Rattle.scopes.specs.Scope.{InScope, Lowest, ownPlace, inner, Told}
+use Rattle.scopes.proofs.Places.{join}
+
+-- ---- a node's misreading nodes are itself, and those of its operands
+abbrev ownList : ℕ → ℕ → ℕ → List ℕ → List ℕ
+ownList n w count kept =
+    cond (eqb (form w) 1) (cond (ltb (item w) count) [] (n ∷ []))
+    (cond (eqb (form w) 2) (cond (among (item w) kept) [] (n ∷ [])) [])
+
+abbrev keptIn : ℕ → List ℕ → List ℕ
+keptIn w kept = cond (eqb (form w) 5) (item w ∷ kept) kept
+
+all-misread : {ws : List ℕ} {n w : ℕ} → View ws n w → (count : ℕ) (kept : List ℕ)
+    → misread count kept (treeAt ws n)
+    ≡ ownList n w count kept
+    ++ (misread count kept (part ws w 0)
+    ++ (misread count (keptIn w kept) (part ws w 1) ++ (misread count kept (part ws w 2) ++ misread count kept (part ws w 3))))
+unfolding misread width
+all-misread (is-0 h e) count kept = rw (e, h)
+all-misread (is-1 h e) count kept = rw (e, h) (simp append-nil)
+all-misread (is-2 h e) count kept = rw (e, h) (simp append-nil)
+all-misread (is-3 h e) count kept = rw (e, h) (simp append-nil)
+all-misread (is-4 h e) count kept = rw (e, h) (simp append-nil)
+all-misread (is-5 h e) count kept = rw (e, h) (simp append-nil)
+all-misread (is-6 h e) count kept = rw (e, h) (simp append-nil)
+all-misread (is-7 h e) count kept = rw (e, h) (simp append-nil)
+all-misread (is-8 h e) count kept = rw (e, h) (simp append-nil)
+all-misread (is-9 h e) count kept = rw (e, h)
+all-misread (is-10 h e) count kept = rw (e, h) (simp append-nil)
+all-misread (is-16 h e) count kept = rw (e, h) (simp append-nil)
+all-misread (is-17 h e) count kept = rw (e, h)
+all-misread (is-18 h e) count kept = rw (e, h) (simp append-nil)
+all-misread (is-19 h e) count kept = rw (e, h) (simp append-nil)
+
+own-place : (n w count scope : ℕ) (kept : List ℕ) → n < nodes → InScope scope kept → At (ownList n w count kept) (ownPlace n w count scope)
+unfolding lowest ownPlace
+own-place n w count scope kept h s =
+    record { is = rw (← s .bit (item w) (omega arith)) (go (eqb (form w) 1) (eqb (form w) 2) (ltb (item w) count) (hasBit (item w) scope)) }
+  where
+    go : (a b c d : Bool) → lowest (cond a (cond c [] (n ∷ [])) (cond b (cond d [] (n ∷ [])) [])) ≡ found (cond a (cond c nodes n) (cond b (cond d nodes n) nodes))
+    go true b true d = refl
+    go true b false d = rw (lt-ltb n nodes h)
+    go false true c true = refl
+    go false true c false = rw (lt-ltb n nodes h)
+    go false false c d = refl
+
+inner-scope : {scope : ℕ} {kept : List ℕ} (w : ℕ) → InScope scope kept → InScope (inner w scope) (keptIn w kept)
+unfolding inner among
+inner-scope {scope} {kept} w s = go (eqb (form w) 5)
+  where
+    go : (b : Bool) → InScope (cond b (bitOr scope (2 ^ item w)) scope) (cond b (item w ∷ kept) kept)
+    go false = s
+    go true =
+        record {
+          bit = λ v l. or-bit v scope (2 ^ item w)
+              ∙ rw (power-bit (item w) v (omega arith) l, s .bit v l) (or-comm (among v kept) (eqb v (item w)));
+        }
+
+-- the calls of the code, put together
+pub joined : {ws : List ℕ} {n count scope x a b c d o r1 r2 r3 r : ℕ} → n < nodes → Formed ws n
+    → Lowest count scope (part ws (word ws n) 2) a → Lowest count scope (part ws (word ws n) 3) b → r1 ≡ min a b
+    → x ≡ inner (word ws n) scope → Lowest count x (part ws (word ws n) 1) c → r2 ≡ min c r1
+    → Lowest count scope (part ws (word ws n) 0) d → r3 ≡ min d r2
+    → o ≡ ownPlace n (word ws n) count scope → r ≡ min o r3
+    → Lowest count scope (treeAt ws n) r
+joined {ws} {n} {count} {scope} h f la lb e1 ex lc e2 ld e3 eo e =
+    record {
+      place = λ kept s.
+          let k = keptIn (word ws n) kept in
+          rw (all-misread (view f) count kept, e, e3, e2, e1, eo)
+          (join (own-place n (word ws n) count scope kept h s)
+          (join (ld .place kept s) (join (lc .place k (rw ex (inner-scope (word ws n) s))) (join (la .place kept s) (lb .place kept s)))));
+    }
+
+-- ---- an operand
+module _ (ws : List ℕ) (w j : ℕ) {count scope : ℕ} where
+  pub part-some : {r o : ℕ} → j < width w → o ≡ operand w j → Lowest count scope (treeAt ws o) r → Lowest count scope (part ws w j) r
+  part-some h e l = rw (lt-ltb j (width w) h, ← e) l
+
+  pub part-none : width w ≤ j → Lowest count scope (part ws w j) nodes
+  unfolding misread lowest
+  part-none h = rw (le-ltb j (width w) h) record { place = λ kept s. record { is = refl } }
+
+-- what a call of `walk` at a lower node asks
+pub asks : {ws : List ℕ} {n k o t : ℕ} → n * 2 ≡ t → n < nodes → AllFormed ws → k ≡ o → o < n → (k * 2 + 1 < t) × ((k < nodes) × AllFormed ws)
+asks m l f e h = (omega arith, (omega arith, f))
+
+-- ---- all trees of a table
+pub no-scope : InScope 0 []
+unfolding among
+no-scope = record { bit = λ v l. no-bit v }
+
+module _ {ws counts bodies : List ℕ} {definitions main : ℕ} (t : Table) (h : Told t ws counts bodies definitions main) where
+  pub none-misread : At (misreadIn t (drop definitions (t .definitions))) nodes
+  unfolding lowest misreadIn
+  none-misread = rw (← h .defined .all, drop-length (t .definitions)) record { is = refl }
+
+  -- one definition more
+  pub more-misread : (d : ℕ) {x r s : ℕ} → d < definitions → Lowest (getD counts d 0) 0 (treeAt ws (getD bodies d 0)) x
+      → At (misreadIn t (drop (d + 1) (t .definitions))) r → s ≡ min x r → At (misreadIn t (drop d (t .definitions))) s
+  unfolding misreadIn
+  more-misread d {x} l w i e =
+      let m : At (misread (definitionAt t d .count) [] (tree t (definitionAt t d .body))) x =
+      rw (h .defined .count d l, h .defined .body d l, ← h .trees (getD bodies d 0) (h .defined .given d l)) (w .place [] no-scope) in
+      rw (drop-cons (t .definitions) d noDefinition (omega (arith, h .defined .all)), e) (join m (rw (add-one d) at i))
+
+  -- and main
+  pub all-trees : {x r s : ℕ} → Lowest 0 0 (treeAt ws main) x → At (misreadIn t (t .definitions)) r → s ≡ min x r
+      → At (misread 0 [] (tree t main) ++ misreadIn t (t .definitions)) s
+  all-trees w i e = rw (← h .trees main (h .given), e) (join (w .place [] no-scope) i)

@@ -1,0 +1,80 @@
+-- `scopes::misread_lowest` meets its contract. Assumes nothing.
+use mathlib.Core.Path.{_≡_}
+use Prim.Native.Nat.{_+_, _-_, _≤_}
+use native.Mathlib.Omega.{arith}
+use lib.ListN.{drop}
+use borrow.Author.Needs.{needs}
+use Rattle.program.specs.Check.{misreadIn}
+use Rattle.program.specs.Table.{Table}
+use Rattle.scopes.specs.Scope.{Told}
+use Rattle.scopes.specs.Places.{At}
+use Rattle.scopes.proofs.Walks.{none-misread, more-misread, all-trees}
+use Rattle.scopes.proofs.misread_lowest.Statement.{statement}
+use Rattle.scopes.proofs.misread_lowest.Tie as tie
+
+abbrev Inv-loop : tie.InvT-loop
+Inv-loop ws counts bodies definitions main r₀ d₀ r d =
+    (d ≤ definitions) × ((t : Table) → Told t ws counts bodies definitions main → At (misreadIn t (drop d (t .definitions))) r)
+
+abbrev μ-loop : tie.MeasureT-loop
+μ-loop ws counts bodies definitions main r₀ d₀ r d = d
+
+loop-holds : tie.Need-loop-holds Inv-loop μ-loop
+loop-holds c = (omega arith, λ t h. none-misread t h)
+
+sub-d : tie.Need-sub-d Inv-loop μ-loop
+sub-d c = search needs
+
+element-copy-out-wide : tie.Need-element-copy-out-wide Inv-loop μ-loop
+element-copy-out-wide c = search needs
+
+wide-requires : tie.Need-wide-requires Inv-loop μ-loop
+wide-requires c κs = search needs
+
+element-copy-out-walk : tie.Need-element-copy-out-walk Inv-loop μ-loop
+element-copy-out-walk c = search needs
+
+walk-requires : tie.Need-walk-requires Inv-loop μ-loop
+walk-requires c κs = (c .before .wide .ensures .1, c .before .before .before .before .before .pre .0)
+
+lower-requires : tie.Need-lower-requires Inv-loop μ-loop
+lower-requires c κs = search needs
+
+loop-less : tie.Need-loop-less Inv-loop μ-loop
+loop-less c = search needs
+
+loop-again : tie.Need-loop-again Inv-loop μ-loop
+loop-again c =
+    let b3 = c .before .before .before in
+    let b6 = b3 .before .before .before in
+    (omega arith, λ t h. let e : b6 .loop .d ≡ (b6 .loop .d - 1) + 1 = omega arith in more-misread t h (b6 .loop .d - 1) (omega arith) (rw (b3 .wide .ensures .0) at (c .before .walk .ensures)) (rw e at (b6 .loop .inv .1 t h)) (c .lower .ensures))
+
+walk-requires-2 : tie.Need-walk-requires-2 Inv-loop μ-loop
+walk-requires-2 c κs = (c .before .before .pre .2, c .before .before .pre .0)
+
+lower-requires-2 : tie.Need-lower-requires-2 Inv-loop μ-loop
+lower-requires-2 c κs = search needs
+
+returns : tie.Need-returns Inv-loop μ-loop
+returns c =
+    let b3 = c .before .before .before in
+    λ t h. let e : b3 .loop .d ≡ 0 = omega arith in all-trees t h (c .before .walk2 .ensures) (rw e at (b3 .loop .inv .1 t h)) (c .lower2 .ensures) .is
+
+pub misread-lowest-spec : {M : Type 1} → statement M
+misread-lowest-spec =
+    tie.close
+    (tie.spec
+    Inv-loop
+    μ-loop
+    loop-holds
+    sub-d
+    element-copy-out-wide
+    wide-requires
+    element-copy-out-walk
+    walk-requires
+    lower-requires
+    loop-less
+    loop-again
+    walk-requires-2
+    lower-requires-2
+    returns)

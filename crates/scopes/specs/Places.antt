@@ -1,0 +1,26 @@
+-- A node's number as the answer of a search, one that no node has where none is meant. And how the columns of a table stand to its definitions. Internal: no public
+-- contract cites it. Definitions only: nothing is assumed.
+use mathlib.Core.Path.{_≡_}
+use mathlib.Core.Bool.{cond}
+use mathlib.Core.List.{List}
+use mathlib.Core.Option.{Option, none, some}
+use Prim.Native.Nat.{ℕ, _<_}
+use lib.ListN.{length, getD}
+use lib.Dec.{ltb}
+use Rattle.program.specs.Table.{Table, definitionAt}
+use Rattle.program.specs.Check.{lowest}
+use Rattle.masks.specs.Formed.{nodes}
+
+abbrev pub found : ℕ → Option ℕ
+found r = cond (ltb r nodes) (some r) none
+
+-- r is the lowest of them
+pub record At (ns : List ℕ) (r : ℕ) : Type 0 where
+  pub is : lowest ns ≡ found r
+
+-- definition d has the d-th parameter count and the d-th body node, which is given
+pub record Defined (t : Table) (counts bodies : List ℕ) (definitions : ℕ) : Type 0 where
+  pub all : length (t .definitions) ≡ definitions
+  pub count : (d : ℕ) → d < definitions → definitionAt t d .count ≡ getD counts d 0
+  pub body : (d : ℕ) → d < definitions → definitionAt t d .body ≡ getD bodies d 0
+  pub given : (d : ℕ) → d < definitions → getD bodies d 0 < length (t .nodes)

@@ -1,0 +1,40 @@
+-- What the search for a wrong use of a definition goes by. Internal: no public contract cites it. Definitions only: nothing is assumed.
+use mathlib.Core.Path.{_≡_}
+use mathlib.Core.Bool.{Bool, false, not, _&&_, _||_}
+use mathlib.Core.List.{List}
+use Prim.Native.Nat.{ℕ, zero, suc, _<_}
+use lib.ListN.{length, getD}
+use lib.Dec.{eqb}
+use Rattle.program.specs.Table.{Table, isCall}
+use Rattle.program.specs.Tree.{tree, spatial}
+use Rattle.program.specs.Check.{nodeAt, useOffends}
+use Rattle.masks.specs.Formed.{nodes}
+use Rattle.scopes.specs.Places.{Defined}
+
+-- the table that the columns tell: kinds of nodes, the definitions that calls and folds name, parameter counts and bodies of definitions, and which
+-- nodes are spatial
+pub record Columns (t : Table) (kinds items counts bodies : List ℕ) (sp : List Bool) (count : ℕ) : Type 0 where
+  pub all : length (t .nodes) ≡ count
+  pub defined : Defined t counts bodies (length (t .definitions))
+  pub kind : (n : ℕ) → n < count → nodeAt t n .kind ≡ getD kinds n 0
+  pub folds : (n : ℕ) → n < count → getD kinds n 0 ≡ 11 → (getD (nodeAt t n .values) 0 0 ≡ getD items n 0) × (getD items n 0 < length (t .definitions))
+  pub calls : (n : ℕ) → n < count → getD kinds n 0 ≡ 12 → (getD (nodeAt t n .values) 0 0 ≡ getD items n 0) × (getD items n 0 < length (t .definitions))
+  pub spread : (d : ℕ) → d < length (t .definitions) → getD sp (getD bodies d 0) false ≡ spatial (tree t (getD bodies d 0))
+
+-- a node below n calls d
+unfoldable pub calledBelow : List ℕ → List ℕ → ℕ → ℕ → Bool
+calledBelow kinds items d zero = false
+calledBelow kinds items d (suc n) = calledBelow kinds items d n || isCall (getD kinds n 0) && eqb (getD items n 0) d
+
+-- the marks of the definitions that nodes below n call
+pub record Marks (kinds items : List ℕ) (called : List Bool) (n : ℕ) : Type 0 where
+  pub long : length called ≡ nodes
+  pub mark : (d : ℕ) → d < nodes → getD called d false ≡ calledBelow kinds items d n
+
+-- a node of a kind offends by its use of definition d, given that d is spatial, called before, and its count
+unfoldable pub offends : ℕ → Bool → Bool → ℕ → Bool
+offends kind spread called count = isCall kind && (spread && called) || eqb kind 11 && (spread || not (eqb count 2))
+
+-- no node below n offends, in any table that the columns tell
+pub record Passed (kinds items counts bodies : List ℕ) (sp : List Bool) (count n : ℕ) : Type 0 where
+  pub none : (t : Table) → Columns t kinds items counts bodies sp count → (k : ℕ) → k < n → useOffends t k ≡ false

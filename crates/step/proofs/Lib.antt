@@ -1,0 +1,5 @@
+pub mod Laws
+pub mod Erasing
+pub mod Folding
+pub mod Numbers
+pub mod Heard

@@ -1,0 +1,718 @@
+//! Programs that the check refuses, each with the case of 01's table it is meant for.
+
+use crate::grow::{self, Shape};
+use crate::random::Random;
+use crate::table::{bytes, write, Draft, Field, Tree, Written};
+
+/// What a call is expected to return: the number, and the place where it is known.
+pub type Expected = Option<(u32, Option<usize>)>;
+
+pub struct Broken {
+    pub label: &'static str,
+    pub program: Vec<u8>,
+    pub expected: Expected,
+}
+
+/// Items before the operands, and operands; a call's depend on its definition.
+const LAYOUT: [(usize, usize); 12] =
+    [(4, 0), (1, 0), (1, 0), (1, 2), (0, 1), (1, 2), (0, 3), (0, 3), (1, 1), (1, 0), (1, 2), (1, 2)];
+
+/// What the fields before some place have given and taken.
+#[derive(Default)]
+struct Before {
+    nodes: usize,
+    /// Parameter counts.
+    definitions: Vec<u8>,
+    named: Vec<u8>,
+    slots: Vec<u8>,
+    variables: Vec<u8>,
+}
+
+impl Before {
+    fn of(fields: &[Field]) -> Before {
+        let mut before = Before::default();
+        for field in fields {
+            if field.tag == 2 {
+                before.definitions.push(field.body[0]);
+                before.named.push(field.body[1]);
+                continue;
+            }
+            before.nodes += 1;
+            let kind = field.body[0];
+            let items = if kind == 12 { 1 } else { LAYOUT[usize::from(kind)].0 };
+            before.named.extend(&field.body[1 + items..]);
+            match kind {
+                5 => before.variables.push(field.body[1]),
+                8 | 9 => before.slots.push(field.body[1]),
+                _ => {}
+            }
+        }
+        before
+    }
+
+    fn unnamed(&self) -> Vec<u8> {
+        (0..self.nodes).map(|n| n as u8).filter(|n| !self.named.contains(n)).collect()
+    }
+}
+
+/// Faults in one field; the field stands after a good beginning.
+const FIELD_FAULTS: [(&str, u32); 46] = [
+    ("1 unknown tag", 1),
+    ("1 no kind byte", 1),
+    ("1 constant of wrong length", 1),
+    ("1 parameter of wrong length", 1),
+    ("1 variable of wrong length", 1),
+    ("1 operator of wrong length", 1),
+    ("1 sense of wrong length", 1),
+    ("1 rep of wrong length", 1),
+    ("1 if of wrong length", 1),
+    ("1 mux of wrong length", 1),
+    ("1 nbr of wrong length", 1),
+    ("1 nbr-range of wrong length", 1),
+    ("1 fold by operator of wrong length", 1),
+    ("1 fold by definition of wrong length", 1),
+    ("1 call under 2 bytes", 1),
+    ("1 call not 2 + count", 1),
+    ("1 definition of wrong length", 1),
+    ("1 main of wrong length", 1),
+    ("3 unknown kind", 3),
+    ("3 constant is the mark", 3),
+    ("3 parameter above 3", 3),
+    ("3 variable above 15", 3),
+    ("3 operator above 8", 3),
+    ("3 variable of rep above 15", 3),
+    ("3 slot of nbr outside 1-15", 3),
+    ("3 slot of nbr-range outside 1-15", 3),
+    ("3 operator of fold above 8", 3),
+    ("3 parameter count above 4", 3),
+    ("4 operand not given", 4),
+    ("4 operand is the node itself", 4),
+    ("4 definition of call not given", 4),
+    ("4 definition of call not given, odd length", 4),
+    ("4 definition of fold not given", 4),
+    ("4 argument not given", 4),
+    ("4 body not given", 4),
+    ("4 main not given", 4),
+    ("5 operand taken", 5),
+    ("5 operand named twice in one field", 5),
+    ("5 argument taken", 5),
+    ("5 argument named twice in one field", 5),
+    ("5 slot of nbr taken", 5),
+    ("5 slot of nbr-range taken", 5),
+    ("5 variable of rep taken", 5),
+    ("5 body taken", 5),
+    ("5 main taken", 5),
+    ("1 field cut short", 1),
+];
+
+fn field_fault(label: &str, before: &Before, random: &mut Random) -> Option<Vec<u8>> {
+    let whole = |tag: u8, body: Vec<u8>| Some(Field { tag, body }.bytes());
+    let junk = |random: &mut Random, length: usize| -> Vec<u8> { (0..length).map(|_| random.byte()).collect() };
+    let above = |random: &mut Random, last: usize| random.near(last + 1, 255) as u8;
+    let slot_out = |random: &mut Random| if random.chance(40) { 0 } else { above(random, 15) };
+    // A node that is given; it may be taken.
+    let given = |random: &mut Random| (before.nodes > 0).then(|| random.below(before.nodes) as u8);
+    let not_given = |random: &mut Random| (before.nodes < 256).then(|| random.near(before.nodes, 255) as u8);
+    let unnamed = before.unnamed();
+    let free = |taken: &[u8], low: u8| (low..=15).find(|one| !taken.contains(one));
+    const PARENTS: [u8; 8] = [3, 4, 5, 6, 7, 8, 10, 11];
+    // A node with operands; items are good and free where they can be.
+    let parent = |kind: u8, operands: &[u8]| -> Option<Vec<u8>> {
+        let mut body = vec![kind];
+        match kind {
+            3 | 10 => body.push(0),
+            5 => body.push(free(&before.variables, 0)?),
+            8 => body.push(free(&before.slots, 1)?),
+            11 if before.definitions.is_empty() => return None,
+            11 => body.push(0),
+            _ => {}
+        }
+        body.extend(operands);
+        Some(body)
+    };
+    let wrong_length = |kind: u8, random: &mut Random| {
+        let right = LAYOUT[usize::from(kind)].0 + LAYOUT[usize::from(kind)].1;
+        let length = match random.below(4) {
+            0 => random.below(right + 4),
+            1 => right - 1,
+            2 => right + 1,
+            _ => right + 256,
+        };
+        let mut body = vec![kind];
+        body.extend(junk(random, length));
+        (length != right).then_some(body)
+    };
+    match label {
+        "1 unknown tag" => {
+            let tag = random.pick(&[0, 4, 5, 16, 17, 128, 129, 255]);
+            let length = random.below(8);
+            whole(tag, junk(random, length))
+        }
+        "1 no kind byte" => whole(1, vec![]),
+        "1 constant of wrong length" => whole(1, wrong_length(0, random)?),
+        "1 parameter of wrong length" => whole(1, wrong_length(1, random)?),
+        "1 variable of wrong length" => whole(1, wrong_length(2, random)?),
+        "1 operator of wrong length" => whole(1, wrong_length(3, random)?),
+        "1 sense of wrong length" => whole(1, wrong_length(4, random)?),
+        "1 rep of wrong length" => whole(1, wrong_length(5, random)?),
+        "1 if of wrong length" => whole(1, wrong_length(6, random)?),
+        "1 mux of wrong length" => whole(1, wrong_length(7, random)?),
+        "1 nbr of wrong length" => whole(1, wrong_length(8, random)?),
+        "1 nbr-range of wrong length" => whole(1, wrong_length(9, random)?),
+        "1 fold by operator of wrong length" => whole(1, wrong_length(10, random)?),
+        "1 fold by definition of wrong length" => whole(1, wrong_length(11, random)?),
+        "1 call under 2 bytes" => whole(1, vec![12]),
+        "1 call not 2 + count" => {
+            let d = (!before.definitions.is_empty()).then(|| random.below(before.definitions.len()))?;
+            let count = usize::from(before.definitions[d]);
+            let length = random.pick(&[0, 1, 2, 3, 4, 5, 260]);
+            let mut body = vec![12, d as u8];
+            body.extend(junk(random, length));
+            (length != count).then_some(())?;
+            whole(1, body)
+        }
+        "1 definition of wrong length" => {
+            let length = random.pick(&[0, 1, 3, 4, 258]);
+            whole(2, junk(random, length))
+        }
+        "1 main of wrong length" => {
+            let length = random.pick(&[0, 2, 3, 257]);
+            whole(3, junk(random, length))
+        }
+        "3 unknown kind" => {
+            let length = random.below(7);
+            let mut body = vec![above(random, 12)];
+            body.extend(junk(random, length));
+            whole(1, body)
+        }
+        "3 constant is the mark" => whole(1, vec![0, 0x80, 0, 0, 0]),
+        "3 parameter above 3" => whole(1, vec![1, above(random, 3)]),
+        "3 variable above 15" => whole(1, vec![2, above(random, 15)]),
+        "3 operator above 8" => whole(1, vec![3, above(random, 8), random.byte(), random.byte()]),
+        "3 variable of rep above 15" => whole(1, vec![5, above(random, 15), random.byte(), random.byte()]),
+        "3 slot of nbr outside 1-15" => whole(1, vec![8, slot_out(random), random.byte()]),
+        "3 slot of nbr-range outside 1-15" => whole(1, vec![9, slot_out(random)]),
+        "3 operator of fold above 8" => whole(1, vec![10, above(random, 8), random.byte(), random.byte()]),
+        "3 parameter count above 4" => whole(2, vec![above(random, 4), random.byte()]),
+        "4 operand not given" => {
+            let kind = random.pick(&PARENTS);
+            let mut operands = vec![not_given(random)?];
+            for _ in 1..LAYOUT[usize::from(kind)].1 {
+                operands.push(given(random)?);
+            }
+            random.shuffle(&mut operands);
+            whole(1, parent(kind, &operands)?)
+        }
+        "4 operand is the node itself" => {
+            (before.nodes < 256).then_some(())?;
+            let kind = random.pick(&PARENTS);
+            whole(1, parent(kind, &[before.nodes as u8; 3][..LAYOUT[usize::from(kind)].1])?)
+        }
+        "4 definition of call not given" => whole(1, vec![12, before.definitions.len() as u8]),
+        "4 definition of call not given, odd length" => {
+            let length = random.between(1, 9);
+            let mut body = vec![12, above(random, before.definitions.len()) - 1];
+            body.extend(junk(random, length));
+            whole(1, body)
+        }
+        "4 definition of fold not given" => {
+            whole(1, vec![11, above(random, before.definitions.len()) - 1, given(random)?, given(random)?])
+        }
+        "4 argument not given" => {
+            let d = (0..before.definitions.len()).find(|d| before.definitions[*d] > 0)?;
+            let mut body = vec![12, d as u8, not_given(random)?];
+            for _ in 1..before.definitions[d] {
+                body.push(given(random)?);
+            }
+            random.shuffle(&mut body[2..]);
+            whole(1, body)
+        }
+        "4 body not given" => whole(2, vec![random.below(5) as u8, not_given(random)?]),
+        "4 main not given" => whole(3, vec![not_given(random)?]),
+        "5 operand taken" => {
+            let kind = random.pick(&PARENTS);
+            let mut operands = vec![(!before.named.is_empty()).then(|| random.pick(&before.named))?];
+            let mut others = unnamed.clone();
+            random.shuffle(&mut others);
+            for _ in 1..LAYOUT[usize::from(kind)].1 {
+                operands.push(others.pop()?);
+            }
+            random.shuffle(&mut operands);
+            whole(1, parent(kind, &operands)?)
+        }
+        "5 operand named twice in one field" => {
+            let kind = random.pick(&[3, 5, 6, 7, 10, 11]);
+            let mut others = unnamed.clone();
+            random.shuffle(&mut others);
+            let twice = others.pop()?;
+            let mut operands = vec![twice, twice];
+            if LAYOUT[usize::from(kind)].1 == 3 {
+                operands.push(others.pop()?);
+            }
+            random.shuffle(&mut operands);
+            whole(1, parent(kind, &operands)?)
+        }
+        "5 argument taken" => {
+            let d = (0..before.definitions.len()).find(|d| before.definitions[*d] > 0)?;
+            let mut others = unnamed.clone();
+            random.shuffle(&mut others);
+            let mut body = vec![12, d as u8, (!before.named.is_empty()).then(|| random.pick(&before.named))?];
+            for _ in 1..before.definitions[d] {
+                body.push(others.pop()?);
+            }
+            random.shuffle(&mut body[2..]);
+            whole(1, body)
+        }
+        "5 argument named twice in one field" => {
+            let d = (0..before.definitions.len()).find(|d| before.definitions[*d] > 1)?;
+            let mut others = unnamed.clone();
+            random.shuffle(&mut others);
+            let twice = others.pop()?;
+            let mut body = vec![12, d as u8, twice, twice];
+            for _ in 2..before.definitions[d] {
+                body.push(others.pop()?);
+            }
+            random.shuffle(&mut body[2..]);
+            whole(1, body)
+        }
+        "5 slot of nbr taken" => {
+            (!before.slots.is_empty() && !unnamed.is_empty()).then_some(())?;
+            whole(1, vec![8, random.pick(&before.slots), random.pick(&unnamed)])
+        }
+        "5 slot of nbr-range taken" => {
+            (!before.slots.is_empty()).then_some(())?;
+            whole(1, vec![9, random.pick(&before.slots)])
+        }
+        "5 variable of rep taken" => {
+            (!before.variables.is_empty() && unnamed.len() > 1).then_some(())?;
+            whole(1, vec![5, random.pick(&before.variables), unnamed[0], unnamed[1]])
+        }
+        "5 body taken" => {
+            (!before.named.is_empty()).then_some(())?;
+            whole(2, vec![random.below(5) as u8, random.pick(&before.named)])
+        }
+        "5 main taken" => {
+            (!before.named.is_empty()).then_some(())?;
+            whole(3, vec![random.pick(&before.named)])
+        }
+        "1 field cut short" => {
+            let length = random.between(0, 9);
+            let tag = random.byte();
+            let field = Field { tag, body: junk(random, length) }.bytes();
+            let cut = random.between(1, field.len() - 1);
+            Some(field[..cut].to_vec())
+        }
+        _ => unreachable!("{label} is no fault of a field"),
+    }
+}
+
+/// A fault in one field, after a good beginning.
+fn in_a_field(random: &mut Random) -> Broken {
+    let (label, number) = FIELD_FAULTS[random.below(FIELD_FAULTS.len())];
+    loop {
+        let shape = Shape { nodes: random.between(4, 60), definitions: random.between(0, 6), ..Shape::any(random) };
+        let fields = any_order(&grow::accepted(shape, random), random).fields;
+        let place = random.below(fields.len());
+        let before = Before::of(&fields[..place]);
+        let Some(fault) = field_fault(label, &before, random) else {
+            continue;
+        };
+        let mut program = bytes(&fields[..place]);
+        program.extend(fault);
+        if label != "1 field cut short" && random.chance(70) {
+            program.extend(bytes(&fields[place..]));
+        }
+        return Broken { label, program, expected: Some((number, Some(place))) };
+    }
+}
+
+fn any_order(draft: &Draft, random: &mut Random) -> Written {
+    let plain = random.chance(30);
+    write(draft, plain, random)
+}
+
+/// Tables that are too full.
+fn too_many(random: &mut Random) -> Broken {
+    let shape = Shape { nodes: 256, definitions: random.between(0, 31), ..Shape::any(random) };
+    let mut draft = grow::accepted(shape, random);
+    if random.chance(50) {
+        grow::pad(&mut draft, 256);
+        let mut fields = any_order(&draft, random).fields;
+        fields.pop();
+        let length = random.below(6);
+        let body: Vec<u8> = (0..length).map(|_| random.byte() % 16).collect();
+        let (label, number) = if body.is_empty() { ("1 257th node without kind", 1) } else { ("2 257th node", 2) };
+        let place = fields.len();
+        fields.push(Field { tag: 1, body });
+        return Broken { label, program: bytes(&fields), expected: Some((number, Some(place))) };
+    }
+    while draft.size() > 200 {
+        draft = grow::accepted(Shape { nodes: 150, ..shape }, random);
+    }
+    while draft.definitions.len() < 32 {
+        draft.definitions.push((random.below(5) as u8, Tree::constant(random.number())));
+    }
+    let mut fields = any_order(&draft, random).fields;
+    fields.pop();
+    let length = random.below(5);
+    let body = (0..length).map(|_| random.byte() % 40).collect();
+    let place = fields.len();
+    fields.push(Field { tag: 2, body });
+    Broken { label: "2 33rd definition", program: bytes(&fields), expected: Some((2, Some(place))) }
+}
+
+fn table_end(random: &mut Random) -> Broken {
+    let mut draft = grow::accepted(Shape { nodes: random.between(1, 50), ..Shape::any(random) }, random);
+    let broken = |label, program| Broken { label, program, expected: Some((6, Some(0))) };
+    match random.below(6) {
+        0 => broken("6 empty program", vec![]),
+        1 => {
+            let mut fields = any_order(&draft, random).fields;
+            fields.truncate(random.below(fields.len()));
+            broken("6 no main", bytes(&fields))
+        }
+        2 => {
+            let mut program = bytes(&any_order(&draft, random).fields);
+            let more = random.between(1, 12);
+            program.extend((0..more).map(|_| random.byte() % 20));
+            broken("6 bytes after main", program)
+        }
+        3 => {
+            let mut fields = any_order(&draft, random).fields;
+            fields.extend(any_order(&draft, random).fields);
+            broken("6 fields after main", bytes(&fields))
+        }
+        4 => {
+            // Main in the middle names what is given there and not yet named.
+            let fields = any_order(&draft, random).fields;
+            let place = random.below(fields.len());
+            let unnamed = Before::of(&fields[..place]).unnamed();
+            let mut early = fields[..place].to_vec();
+            if !unnamed.is_empty() {
+                early.push(Field { tag: 3, body: vec![random.pick(&unnamed)] });
+                early.extend(fields[place..].iter().cloned());
+            }
+            broken("6 main in the middle", bytes(&early))
+        }
+        _ => {
+            let one = Tree::constant(random.number());
+            draft.orphans.push(if random.chance(50) { one } else { Tree::new(4, &[], vec![one]) });
+            broken("6 node unnamed", bytes(&any_order(&draft, random).fields))
+        }
+    }
+}
+
+/// Faults of the trees: the label, the refusal.
+const TREE_FAULTS: [(&str, u32); 27] = [
+    ("7 sense of a field", 7),
+    ("7 rep with a field as initial part", 7),
+    ("7 rep with a field as update", 7),
+    ("7 if with a field as condition", 7),
+    ("7 if with a field and a number", 7),
+    ("7 if with a number and a field", 7),
+    ("7 mux with a field as condition", 7),
+    ("7 mux with a field as then", 7),
+    ("7 mux with a field as else", 7),
+    ("7 mux with two fields", 7),
+    ("7 nbr of a field", 7),
+    ("7 fold by operator from a field", 7),
+    ("7 fold by operator over a number", 7),
+    ("7 fold by definition from a field", 7),
+    ("7 fold by definition over a number", 7),
+    ("7 call with a field", 7),
+    ("7 main is a field", 7),
+    ("7 a body is a field", 7),
+    ("8 parameter in main", 8),
+    ("8 parameter at its tree's count", 8),
+    ("8 variable without a rep", 8),
+    ("8 variable in its own initial part", 8),
+    ("8 variable beside its rep", 8),
+    ("8 variable in a definition called under the update", 8),
+    ("9 spatial definition called twice", 9),
+    ("9 fold by a spatial definition", 9),
+    ("9 fold by a definition without two parameters", 9),
+];
+
+/// Adds `new` to a number somewhere in a number tree.
+fn graft(tree: &mut Tree, new: Tree, random: &mut Random) {
+    // The operands of a number that are numbers themselves.
+    let numbers = match tree.kind {
+        8 | 9 => 0,
+        10 | 11 => 1,
+        _ => tree.children.len(),
+    };
+    if numbers > 0 && random.chance(75) {
+        return graft(&mut tree.children[random.below(numbers)], new, random);
+    }
+    let old = std::mem::replace(tree, Tree::constant(0));
+    *tree = if random.chance(50) { Tree::sum(old, new) } else { Tree::sum(new, old) };
+}
+
+/// A field that takes this slot; its form goes by the slot.
+fn some_field(slot: u8) -> Tree {
+    let range = Tree::new(9, &[slot], vec![]);
+    let nbr = Tree::new(8, &[slot], vec![Tree::constant(2)]);
+    match slot % 4 {
+        0 => range,
+        1 => nbr,
+        2 => Tree::sum(range, Tree::constant(3)),
+        _ => Tree::sum(Tree::constant(4), nbr),
+    }
+}
+
+/// One fault of the trees. None where the draft has no room for it.
+fn tree_fault(label: &str, number: u32, draft: &mut Draft, random: &mut Random) -> Option<()> {
+    // The draft was grown with two slots and two variables to spare.
+    let mut used = (vec![], vec![]);
+    for (_, body) in &draft.definitions {
+        collect(body, &mut used);
+    }
+    collect(&draft.main, &mut used);
+    let mut slots = (1..=15).filter(|slot| !used.0.contains(slot));
+    let mut variables = (0..=15).filter(|variable| !used.1.contains(variable));
+    let mut field = || slots.next().map(some_field);
+    let one = || Tree::constant(1);
+    let read = |v: u8| Tree::new(2, &[v], vec![]);
+    let definitions = draft.definitions.len();
+    let bad = match label {
+        "7 sense of a field" => Tree::new(4, &[], vec![field()?]),
+        "7 rep with a field as initial part" => Tree::new(5, &[variables.next()?], vec![field()?, one()]),
+        "7 rep with a field as update" => Tree::new(5, &[variables.next()?], vec![one(), field()?]),
+        "7 if with a field as condition" => Tree::new(6, &[], vec![field()?, one(), one()]),
+        "7 if with a field and a number" => Tree::new(6, &[], vec![one(), field()?, one()]),
+        "7 if with a number and a field" => Tree::new(6, &[], vec![one(), one(), field()?]),
+        "7 mux with a field as condition" => Tree::new(7, &[], vec![field()?, one(), one()]),
+        "7 mux with a field as then" => Tree::new(7, &[], vec![one(), field()?, one()]),
+        "7 mux with a field as else" => Tree::new(7, &[], vec![one(), one(), field()?]),
+        "7 mux with two fields" => Tree::new(7, &[], vec![one(), field()?, field()?]),
+        "7 nbr of a field" => {
+            let inner = field()?;
+            let nbr = Tree::new(8, &[slots.next()?], vec![inner]).offending(7);
+            let fold = Tree::new(10, &[0], vec![one(), nbr]);
+            graft(&mut draft.main, fold, random);
+            return Some(());
+        }
+        "7 fold by operator from a field" => Tree::new(10, &[0], vec![field()?, field()?]),
+        "7 fold by operator over a number" => Tree::new(10, &[0], vec![one(), one()]),
+        "7 fold by definition from a field" | "7 fold by definition over a number" => {
+            (definitions < 32).then_some(())?;
+            draft.definitions.push((2, one()));
+            let over = if label.ends_with("number") { [one(), one()] } else { [field()?, field()?] };
+            Tree::new(11, &[definitions as u8], over.to_vec())
+        }
+        "7 call with a field" => {
+            (definitions < 32).then_some(())?;
+            let count = random.between(1, 4);
+            draft.definitions.push((count as u8, one()));
+            let mut arguments: Vec<Tree> = (0..count).map(|_| one()).collect();
+            arguments[random.below(count)] = field()?;
+            Tree::new(12, &[definitions as u8], arguments)
+        }
+        "7 main is a field" => {
+            let old = std::mem::replace(&mut draft.main, one());
+            draft.main = Tree::sum(old, field()?).offending(7);
+            return Some(());
+        }
+        "7 a body is a field" => {
+            (definitions < 32).then_some(())?;
+            let body = if random.chance(50) { field()? } else { Tree::new(6, &[], vec![one(), field()?, field()?]) };
+            draft.definitions.push((random.below(5) as u8, body.offending(7)));
+            return Some(());
+        }
+        "8 parameter in main" => Tree::new(1, &[random.below(4) as u8], vec![]),
+        "8 parameter at its tree's count" => {
+            (definitions > 0).then_some(())?;
+            let d = random.below(definitions);
+            let (count, body) = &mut draft.definitions[d];
+            (*count < 4).then_some(())?;
+            let p = random.between(usize::from(*count), 3) as u8;
+            graft(body, Tree::new(1, &[p], vec![]).offending(number), random);
+            return Some(());
+        }
+        "8 variable without a rep" => read(variables.next()?),
+        "8 variable in its own initial part" => {
+            let v = variables.next()?;
+            let initial = if random.chance(50) { read(v).offending(8) } else { Tree::sum(one(), read(v).offending(8)) };
+            graft(&mut draft.main, Tree::new(5, &[v], vec![initial, read(v)]), random);
+            return Some(());
+        }
+        "8 variable beside its rep" => {
+            let v = variables.next()?;
+            let rep = Tree::new(5, &[v], vec![one(), read(v)]);
+            graft(&mut draft.main, Tree::sum(rep, read(v).offending(8)), random);
+            return Some(());
+        }
+        "8 variable in a definition called under the update" => {
+            (definitions < 32).then_some(())?;
+            let v = variables.next()?;
+            draft.definitions.push((0, Tree::sum(read(v).offending(8), one())));
+            let call = Tree::new(12, &[definitions as u8], vec![]);
+            graft(&mut draft.main, Tree::new(5, &[v], vec![one(), Tree::sum(read(v), call)]), random);
+            return Some(());
+        }
+        "9 spatial definition called twice" => {
+            (definitions + 2 <= 32).then_some(())?;
+            let fold = Tree::new(10, &[0], vec![one(), field()?]);
+            let body = if random.chance(50) { fold } else { Tree::new(5, &[variables.next()?], vec![one(), one()]) };
+            draft.definitions.push((0, body));
+            let mut called = definitions as u8;
+            if random.chance(50) {
+                // Spatial through a call.
+                draft.definitions.push((0, Tree::new(12, &[called], vec![])));
+                called += 1;
+            }
+            let call = || Tree::new(12, &[called], vec![]).offending(9);
+            graft(&mut draft.main, call(), random);
+            if random.chance(50) && draft.definitions.len() < 32 {
+                draft.definitions.push((1, call()));
+            } else {
+                graft(&mut draft.main, call(), random);
+            }
+            return Some(());
+        }
+        "9 fold by a spatial definition" => {
+            (definitions < 32).then_some(())?;
+            let fold = Tree::new(10, &[0], vec![one(), field()?]);
+            draft.definitions.push((2, fold));
+            Tree::new(11, &[definitions as u8], vec![one(), field()?])
+        }
+        "9 fold by a definition without two parameters" => {
+            (definitions < 32).then_some(())?;
+            draft.definitions.push((random.pick(&[0, 1, 3, 4]), one()));
+            Tree::new(11, &[definitions as u8], vec![one(), field()?])
+        }
+        _ => unreachable!("{label} is no fault of the trees"),
+    };
+    graft(&mut draft.main, bad.offending(number), random);
+    Some(())
+}
+
+/// The slots and variables that a tree takes.
+fn collect(tree: &Tree, used: &mut (Vec<u8>, Vec<u8>)) {
+    match tree.kind {
+        8 | 9 => used.0.push(tree.items[0]),
+        2 | 5 => used.1.push(tree.items[0]),
+        _ => {}
+    }
+    for child in &tree.children {
+        collect(child, used);
+    }
+}
+
+/// Faults of the trees, one or several.
+fn in_the_trees(faults: usize, random: &mut Random) -> Broken {
+    loop {
+        let any = Shape::any(random);
+        let shape = Shape { nodes: any.nodes.min(200), spare: 5, ..any };
+        let mut draft = grow::accepted(shape, random);
+        let mut chosen: Vec<(&'static str, u32)> = TREE_FAULTS.to_vec();
+        random.shuffle(&mut chosen);
+        chosen.truncate(faults);
+        // A main that is a field must stay main: this one goes last.
+        chosen.sort_by_key(|(label, _)| *label == "7 main is a field");
+        let done = chosen.iter().all(|(label, number)| tree_fault(label, *number, &mut draft, random).is_some());
+        if !done || draft.size() > 256 {
+            continue;
+        }
+        let written = any_order(&draft, random);
+        let number = chosen.iter().map(|(_, number)| *number).min().unwrap_or(0);
+        let mut places: Vec<usize> =
+            written.offending.iter().filter(|(row, _)| *row == number).map(|(_, node)| *node).collect();
+        places.sort();
+        let (label, place) = match chosen[..] {
+            [("9 spatial definition called twice", _)] => (chosen[0].0, places[1]),
+            [(label, _)] => (label, places[0]),
+            _ => ("7-9 several faults of the trees", places[0]),
+        };
+        // Among several faults one of sort may mend another (two branches become fields), and both calls of a
+        // spatial definition are marked: the place is left open.
+        let open = chosen.len() > 1 && number != 8;
+        return Broken { label, program: bytes(&written.fields), expected: Some((number, (!open).then_some(place))) };
+    }
+}
+
+fn too_dear(random: &mut Random) -> Broken {
+    let (label, draft) = match random.below(3) {
+        0 => ("10 cost 1,000,001", grow::costing(1_000_001, random)),
+        1 => {
+            let cost = random.between(1_000_001, 3_000_000) as u64;
+            ("10 cost above 1,000,000", grow::costing(cost, random))
+        }
+        _ => {
+            let levels = random.between(22, 32);
+            let main = Tree::new(12, &[levels as u8 - 1], vec![]);
+            ("10 tower of definitions", Draft { definitions: grow::tower(levels), main, orphans: vec![] })
+        }
+    };
+    Broken { label, program: bytes(&any_order(&draft, random).fields), expected: Some((10, Some(0))) }
+}
+
+/// A program with a known fault.
+pub fn labelled(random: &mut Random) -> Broken {
+    match random.below(100) {
+        0..=49 => in_a_field(random),
+        50..=55 => too_many(random),
+        56..=63 => table_end(random),
+        64..=88 => in_the_trees(1, random),
+        89..=95 => {
+            let faults = random.between(2, 3);
+            in_the_trees(faults, random)
+        }
+        _ => too_dear(random),
+    }
+}
+
+/// A program spoiled without a plan; often refused, sometimes not.
+pub fn spoiled(random: &mut Random) -> Broken {
+    let shape = Shape { nodes: random.between(1, 40), ..Shape::any(random) };
+    let draft = grow::accepted(shape, random);
+    let mut fields = any_order(&draft, random).fields;
+    let mut program = bytes(&fields);
+    let label = match random.below(5) {
+        0 => {
+            program.truncate(random.below(program.len()));
+            "spoiled: truncated"
+        }
+        1 => {
+            for _ in 0..random.between(1, 4) {
+                let at = random.below(program.len());
+                program[at] ^= 1 << random.below(8);
+            }
+            "spoiled: bits flipped"
+        }
+        2 => {
+            // One byte of a body, to a small number or a near one.
+            let at = random.below(fields.len());
+            let field = &mut fields[at];
+            let byte = random.below(field.body.len());
+            field.body[byte] = match random.below(3) {
+                0 => random.byte() % 18,
+                1 => field.body[byte].wrapping_add(1),
+                _ => field.body[byte].wrapping_sub(1),
+            };
+            program = bytes(&fields);
+            "spoiled: one byte of a body"
+        }
+        3 => {
+            let at = random.below(fields.len());
+            match random.below(3) {
+                0 => {
+                    fields.remove(at);
+                }
+                1 => fields.insert(at, fields[random.below(fields.len())].clone()),
+                _ => {
+                    let other = random.below(fields.len());
+                    fields.swap(at, other);
+                }
+            }
+            program = bytes(&fields);
+            "spoiled: fields moved"
+        }
+        _ => {
+            let length = random.below(40);
+            program = (0..length).map(|_| random.byte() % 14).collect();
+            "spoiled: noise"
+        }
+    };
+    Broken { label, program, expected: None }
+}

@@ -1,0 +1,295 @@
+//! Seeded cases for engines of document 01 ("01"): the same seed and index always give the same case.
+#![deny(warnings)]
+#![forbid(unsafe_code)]
+
+pub mod broken;
+pub mod events;
+pub mod grow;
+pub mod network;
+pub mod random;
+pub mod systematic;
+pub mod table;
+
+use broken::Expected;
+use grow::Shape;
+use random::Random;
+
+#[derive(Clone, Copy, Debug, PartialEq, Eq)]
+pub enum Call {
+    Check,
+    Fresh,
+    Event,
+    Run,
+    /// Two runs, of `list` and of `reordered` (demand 3).
+    Orders,
+}
+
+/// One call with all that is lent to it.
+#[derive(Clone, Debug)]
+pub struct Case {
+    /// The family, and the case of 01's table that is meant.
+    pub label: &'static str,
+    pub call: Call,
+    pub program: Vec<u8>,
+    pub network: Vec<i32>,
+    pub list: Vec<u8>,
+    pub reordered: Vec<u8>,
+    /// Length of the answer space.
+    pub space: usize,
+    /// What is known of the returned number and place.
+    pub expected: Expected,
+}
+
+/// An accepted program of any shape.
+pub fn program(random: &mut Random) -> Vec<u8> {
+    let draft = match random.below(20) {
+        0 => {
+            let slot = random.between(1, 14) as u8;
+            grow::distance_to([slot, slot + 1], random.below(16) as u8)
+        }
+        1 => {
+            let mut draft = grow::accepted(Shape { nodes: 256, ..Shape::any(random) }, random);
+            grow::pad(&mut draft, 256);
+            draft
+        }
+        2 | 3 => grow::calculation(random),
+        _ => grow::accepted(Shape::any(random), random),
+    };
+    let plain = random.chance(30);
+    table::bytes(&table::write(&draft, plain, random).fields)
+}
+
+/// A program whose main costs 1,000,000 or a little less.
+fn dear_program(random: &mut Random) -> Vec<u8> {
+    let cost = 1_000_000 - random.pick(&[0, 0, 1, 15, 1_000]);
+    let draft = grow::costing(cost, random);
+    let plain = random.chance(30);
+    table::bytes(&table::write(&draft, plain, random).fields)
+}
+
+const DONE: Expected = Some((0, Some(0)));
+
+/// The case with this index.
+pub fn nth(seed: u64, index: u64) -> Case {
+    let random = &mut Random::new(seed, index);
+    let empty = Case {
+        label: "",
+        call: Call::Check,
+        program: vec![],
+        network: vec![],
+        list: vec![],
+        reordered: vec![],
+        space: 0,
+        expected: None,
+    };
+    match random.below(100) {
+        0..=7 => {
+            let dear = random.chance(4);
+            let program = if dear { dear_program(random) } else { program(random) };
+            Case { label: "check: accepted", program, expected: DONE, ..empty }
+        }
+        8..=33 => {
+            let broken = broken::labelled(random);
+            Case { label: broken.label, program: broken.program, expected: broken.expected, ..empty }
+        }
+        34..=42 => {
+            let broken = broken::spoiled(random);
+            Case { label: broken.label, program: broken.program, expected: broken.expected, ..empty }
+        }
+        43..=44 => fresh_case(random, empty),
+        45..=92 => on_a_network(random, empty),
+        _ => orders(random),
+    }
+}
+
+fn fresh_case(random: &mut Random, empty: Case) -> Case {
+    let devices = network::devices(random);
+    let mut network = network::sound(&devices, random);
+    if random.chance(30) {
+        let length = random.pick(&[0, 1, 529, network::CELLS - 1, network::CELLS + 1, 8_720]);
+        network.resize(length, 3);
+        return Case {
+            label: "fresh: 11 wrong length",
+            call: Call::Fresh,
+            network,
+            expected: Some((11, Some(0))),
+            ..empty
+        };
+    }
+    for cell in network.iter_mut() {
+        if random.chance(5) {
+            *cell = random.word() as i32;
+        }
+    }
+    Case { label: "fresh", call: Call::Fresh, network, expected: DONE, ..empty }
+}
+
+/// One event or a run; mostly all goes well, else one or several things are wrong.
+fn on_a_network(random: &mut Random, empty: Case) -> Case {
+    let devices = network::devices(random);
+    let call = if random.chance(35) { Call::Event } else { Call::Run };
+    let length = match call {
+        Call::Event => 1,
+        _ => random.weighted(&[(10, 0), (20, 1), (100, 12), (100, 30), (30, 80), (10, 200), (1, 3_000)]),
+    };
+    let odd = random.pick(&[0, 5, 5, 60]);
+    let space = |random: &mut Random, events: usize| 2 * events + random.pick(&[0, 0, 0, 1, 2, 7]);
+    let fine = |random: &mut Random| Case {
+        label: if call == Call::Event { "event" } else { "run" },
+        call,
+        program: program(random),
+        network: network::sound(&devices, random),
+        list: events::list(length, &devices, odd, random).concat(),
+        space: space(random, length),
+        expected: DONE,
+        ..empty.clone()
+    };
+    match random.below(100) {
+        // One round that costs a million is enough, and slow in an engine of trees.
+        0 if random.chance(10) => Case {
+            label: "event: dear round",
+            call: Call::Event,
+            program: dear_program(random),
+            list: events::fire(random.pick(&devices)),
+            space: 2,
+            ..fine(random)
+        },
+        0..=74 => fine(random),
+        75..=83 => {
+            let unsound = network::unsound(&devices, random);
+            Case { label: unsound.label, network: unsound.cells, expected: unsound.expected, ..fine(random) }
+        }
+        84..=91 => {
+            let good = random.weighted(&[(3, 0), (3, 1), (2, 2), (1, 9)]);
+            if call == Call::Event && random.chance(30) {
+                let (label, list, place) = match random.below(3) {
+                    0 => ("12 no event", vec![], 0),
+                    1 => ("12 event after the first", events::list(2, &devices, odd, random).concat(), 1),
+                    _ => {
+                        let mut list = events::any(&devices, odd, random);
+                        list.push(random.byte());
+                        ("12 byte after the first", list, 1)
+                    }
+                };
+                return Case { label, list, space: random.below(6), expected: Some((12, Some(place))), ..fine(random) };
+            }
+            let malformed = events::malformed(good, &devices, random);
+            let expected = if call == Call::Event { malformed.event } else { malformed.run };
+            Case { label: malformed.label, list: malformed.list, space: space(random, good), expected, ..fine(random) }
+        }
+        92..=94 => {
+            let case = fine(random);
+            if length == 0 {
+                return case;
+            }
+            let space = if random.chance(50) { 2 * length - 1 } else { random.below(2 * length) };
+            Case { label: "13 answer space too short", space, expected: Some((13, Some(0))), ..case }
+        }
+        _ => several(random, fine),
+    }
+}
+
+/// Several of program, network, list and answer space are bad: the first row counts.
+fn several(random: &mut Random, fine: impl Fn(&mut Random) -> Case) -> Case {
+    let mut case = fine(random);
+    case.label = "1-13 several at once";
+    if random.chance(50) {
+        case.space = 0;
+        case.expected = if case.list.is_empty() { DONE } else { Some((13, Some(0))) };
+    }
+    if random.chance(50) {
+        let malformed = events::malformed(random.below(2), &[1, 2], random);
+        case.list = malformed.list;
+        case.expected = if case.call == Call::Event { malformed.event } else { malformed.run };
+    }
+    if random.chance(50) {
+        let unsound = network::unsound(&[1, 2], random);
+        case.network = unsound.cells;
+        case.expected = unsound.expected;
+    }
+    if random.chance(50) {
+        let broken = broken::labelled(random);
+        case.program = broken.program;
+        case.expected = broken.expected;
+    }
+    case
+}
+
+fn orders(random: &mut Random) -> Case {
+    let devices = network::devices(random);
+    let length = random.weighted(&[(1, 0), (3, 6), (6, 20), (6, 50)]);
+    let odd = random.pick(&[0, 5, 30]);
+    let first = events::list(length, &devices, odd, random);
+    let second = events::reordered(&first, random);
+    Case {
+        label: "orders (demand 3)",
+        call: Call::Orders,
+        program: program(random),
+        network: network::sound(&devices, random),
+        space: 2 * length + random.below(3),
+        list: first.concat(),
+        reordered: second.concat(),
+        expected: DONE,
+    }
+}
+
+#[cfg(test)]
+mod tests {
+    use super::*;
+    use std::collections::BTreeSet;
+
+    /// Accepted programs reach every kind and every limit.
+    #[test]
+    fn programs_reach_the_limits() {
+        let mut kinds = BTreeSet::new();
+        let mut parents = BTreeSet::new();
+        let [mut nodes, mut definitions, mut slots, mut variables, mut parameters] = [0; 5];
+        for index in 0..2_000 {
+            let mut rest = &program(&mut Random::new(9, index))[..];
+            let mut bodies: Vec<Vec<u8>> = vec![];
+            let mut counts = vec![];
+            while let [tag, high, low, after @ ..] = rest {
+                let (body, after) = after.split_at(usize::from(*high) * 256 + usize::from(*low));
+                match tag {
+                    1 => bodies.push(body.to_vec()),
+                    2 => counts.push(usize::from(body[0])),
+                    _ => {}
+                }
+                rest = after;
+            }
+            let of = |kind: u8| bodies.iter().filter(|body| body[0] == kind).count();
+            kinds.extend(bodies.iter().map(|body| body[0]));
+            // Which kinds stand right under which: operands follow the items.
+            for body in &bodies {
+                let items = [4, 1, 1, 1, 0, 1, 0, 0, 1, 1, 1, 1, 1][usize::from(body[0])];
+                parents.extend(body[1 + items..].iter().map(|child| (body[0], bodies[usize::from(*child)][0])));
+            }
+            nodes = nodes.max(bodies.len());
+            definitions = definitions.max(counts.len());
+            slots = slots.max(of(8) + of(9));
+            variables = variables.max(of(5));
+            parameters = parameters.max(counts.iter().copied().max().unwrap_or(0));
+        }
+        assert_eq!(kinds, (0..=12).collect());
+        assert_eq!([nodes, definitions, slots, variables, parameters], [256, 32, 15, 16, 4]);
+        // Every kind that gives a number stands under every kind that takes one, fields under all that take them.
+        for parent in [3, 4, 5, 6, 7, 8, 10, 11, 12] {
+            for child in [0, 1, 2, 3, 4, 5, 6, 7, 10, 11, 12] {
+                assert!(parents.contains(&(parent, child)), "no kind {child} under kind {parent}");
+            }
+        }
+        for parent in [3, 6, 10, 11] {
+            for child in [3, 6, 8, 9] {
+                assert!(parents.contains(&(parent, child)), "no kind {child} under kind {parent}");
+            }
+        }
+    }
+
+    #[test]
+    fn a_case_is_its_seed_and_index() {
+        for index in 0..200 {
+            let (one, two) = (nth(4, index), nth(4, index));
+            assert_eq!((one.program, one.network, one.list), (two.program, two.network, two.list));
+        }
+    }
+}

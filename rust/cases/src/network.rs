@@ -1,0 +1,167 @@
+//! Networks as cells: sound ones, and ones with a broken rule.
+
+use crate::broken::Expected;
+use crate::random::Random;
+
+pub const ABSENT: i32 = i32::MIN;
+pub const BLOCK: usize = 529;
+pub const CELLS: usize = 16 * BLOCK;
+
+pub fn variable(a: usize, v: usize) -> usize {
+    (a - 1) * BLOCK + v
+}
+
+pub fn sensors(a: usize) -> usize {
+    (a - 1) * BLOCK + 16
+}
+
+/// Slot i last heard from b; i = 0 is the link's distance.
+pub fn heard(a: usize, b: usize, i: usize) -> usize {
+    (a - 1) * BLOCK + 17 + 16 * (b - 1) + i
+}
+
+/// The message pending from a to b; i = 0 is its mark.
+pub fn pending(a: usize, b: usize, i: usize) -> usize {
+    (a - 1) * BLOCK + 273 + 16 * (b - 1) + i
+}
+
+pub fn fresh() -> Vec<i32> {
+    let mut cells = vec![ABSENT; CELLS];
+    for a in 1..=16 {
+        cells[sensors(a)] = 0;
+        for b in 1..=16 {
+            cells[pending(a, b, 0)] = 0;
+        }
+    }
+    cells
+}
+
+/// The devices that a case lets act; few, so that they meet.
+pub fn devices(random: &mut Random) -> Vec<u8> {
+    let mut all: Vec<u8> = (1..=16).collect();
+    random.shuffle(&mut all);
+    let few = random.weighted(&[(4, 2), (5, 3), (3, 4), (2, 6), (1, 16)]);
+    all.truncate(few);
+    if random.chance(30) && !all.contains(&16) {
+        all[0] = 16;
+    }
+    if random.chance(30) && !all.contains(&1) {
+        all[1] = 1;
+    }
+    all
+}
+
+/// A sound network; busy among `devices`, as when fresh elsewhere or busy everywhere.
+pub fn sound(devices: &[u8], random: &mut Random) -> Vec<i32> {
+    let mut cells = fresh();
+    let all: Vec<u8> = (1..=16).collect();
+    let busy = match random.below(10) {
+        0..=2 => return cells,
+        3..=8 => devices,
+        _ => &all,
+    };
+    let full = random.pick(&[10, 40, 80, 100]);
+    let zeros = random.pick(&[0, 50, 90]);
+    let slot = |random: &mut Random| if random.chance(zeros) { 0 } else { random.number() };
+    for a in busy {
+        let a = usize::from(*a);
+        for v in 0..16 {
+            if random.chance(full) {
+                cells[variable(a, v)] = random.number();
+            }
+        }
+        cells[sensors(a)] = match random.below(3) {
+            0 => 0,
+            1 => random.below(65_536) as i32,
+            _ => random.below(8) as i32 | random.pick(&[0, 32_768]),
+        };
+        for b in busy {
+            let b = usize::from(*b);
+            if a == b {
+                continue;
+            }
+            if random.chance(60) {
+                cells[heard(a, b, 0)] = random.pick(&[0, 1, 5, 10, 999_999, 1_000_000]);
+            }
+            for i in 1..16 {
+                if random.chance(full) {
+                    cells[heard(a, b, i)] = slot(random);
+                }
+            }
+            if random.chance(50) {
+                cells[pending(a, b, 0)] = 1;
+                for i in 1..16 {
+                    if random.chance(full) {
+                        cells[pending(a, b, i)] = slot(random);
+                    }
+                }
+            }
+        }
+    }
+    cells
+}
+
+/// Breaks one rule of a network; the label and the cell.
+fn spoil(cells: &mut [i32], random: &mut Random) -> (&'static str, usize) {
+    let a = random.between(1, 16);
+    let b = (a + random.between(1, 15) - 1) % 16 + 1;
+    let i = random.between(1, 15);
+    let mut put = |label: &'static str, place: usize, number: i32| {
+        cells[place] = number;
+        (label, place)
+    };
+    match random.below(11) {
+        0 => put("11 sensors below 0", sensors(a), random.pick(&[-1, -65_536, ABSENT, -i32::MAX])),
+        1 => put("11 sensors above 65,535", sensors(a), random.pick(&[65_536, 65_537, i32::MAX])),
+        2 => put("11 distance below 0", heard(a, b, 0), random.pick(&[-1, -1_000_000, -i32::MAX])),
+        3 => put("11 distance above 1,000,000", heard(a, b, 0), random.pick(&[1_000_001, 2_000_000, i32::MAX])),
+        4 => put("11 mark above 1", pending(a, b, 0), random.pick(&[2, 3, 256, i32::MAX])),
+        5 => put("11 mark below 0", pending(a, b, 0), random.pick(&[-1, ABSENT, -i32::MAX])),
+        6 => {
+            for other in 0..16 {
+                put("", pending(a, b, other), if other == 0 { 0 } else { ABSENT });
+            }
+            let number = random.number();
+            put("11 slot present where the mark is 0", pending(a, b, i), number)
+        }
+        7 => put("11 own distance", heard(a, a, 0), random.pick(&[0, 1, 1_000_000, -1])),
+        8 => {
+            let number = random.number();
+            put("11 own heard slot", heard(a, a, i), number)
+        }
+        9 => put("11 own mark", pending(a, a, 0), random.pick(&[1, 2, -1, ABSENT])),
+        _ => {
+            let number = random.number();
+            put("11 own pending slot", pending(a, a, i), number)
+        }
+    }
+}
+
+pub struct Unsound {
+    pub label: &'static str,
+    pub cells: Vec<i32>,
+    pub expected: Expected,
+}
+
+pub fn unsound(devices: &[u8], random: &mut Random) -> Unsound {
+    if random.chance(15) {
+        let length = random.pick(&[0, 1, 16, 529, CELLS - 529, CELLS - 1, CELLS + 1, CELLS + 529, 8_720]);
+        let mut cells = sound(devices, random);
+        cells.resize(length, ABSENT);
+        return Unsound { label: "11 wrong length", cells, expected: Some((11, Some(0))) };
+    }
+    let mut cells = sound(devices, random);
+    let (label, place) = spoil(&mut cells, random);
+    if random.chance(70) {
+        return Unsound { label, cells, expected: Some((11, Some(place))) };
+    }
+    for _ in 0..random.between(1, 6) {
+        if random.chance(60) {
+            spoil(&mut cells, random);
+        } else {
+            let at = random.below(CELLS);
+            cells[at] = random.pick(&[0, 1, 2, -1, 70_000, ABSENT, i32::MAX]);
+        }
+    }
+    Unsound { label: "11 several cells", cells, expected: None }
+}

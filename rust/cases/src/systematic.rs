@@ -1,0 +1,169 @@
+//! Cases that leave nothing to chance: every pair of edge numbers, every cell, every truncation, bit and event byte.
+
+use crate::grow::{self, Shape};
+use crate::random::Random;
+use crate::table::{bytes, write, Draft, Tree};
+use crate::{events, network, Call, Case};
+
+const EDGES: [i32; 17] = [
+    -i32::MAX,
+    1 - i32::MAX,
+    -65_536,
+    -46_341,
+    -7,
+    -2,
+    -1,
+    0,
+    1,
+    2,
+    7,
+    32_768,
+    46_341,
+    65_536,
+    i32::MAX / 2 + 1,
+    i32::MAX - 1,
+    i32::MAX,
+];
+
+fn case(label: &'static str, call: Call, program: &[u8]) -> Case {
+    Case {
+        label,
+        call,
+        program: program.to_vec(),
+        network: vec![],
+        list: vec![],
+        reordered: vec![],
+        space: 2,
+        expected: None,
+    }
+}
+
+fn plain(main: Tree) -> Vec<u8> {
+    let draft = Draft { definitions: vec![], main, orphans: vec![] };
+    bytes(&write(&draft, true, &mut Random::new(0, 0)).fields)
+}
+
+/// All systematic cases. One call each; `see` gets them in turn.
+pub fn all(see: &mut dyn FnMut(Case)) {
+    arithmetic(see);
+    cells(see);
+    programs(see);
+    event_bytes(see);
+}
+
+/// Each operator on each pair of edge numbers: as numbers, as a field and a number both ways round, as two fields, folded.
+fn arithmetic(see: &mut dyn FnMut(Case)) {
+    for o in 0..9 {
+        for left in EDGES {
+            for right in EDGES {
+                let c = Tree::constant;
+                let field = |slot: u8| Tree::new(8, &[slot], vec![c(left)]);
+                let op = |l: Tree, r: Tree| Tree::new(3, &[o], vec![l, r]);
+                let fold = |field: Tree| Tree::new(10, &[0], vec![c(0), field]);
+                let forms = [
+                    op(c(left), c(right)),
+                    fold(op(field(1), c(right))),
+                    fold(op(c(left), field(2))),
+                    fold(op(field(1), field(2))),
+                    Tree::new(10, &[o], vec![c(left), field(2)]),
+                ];
+                // Device 1 hears left in slot 1 and right in slot 2 from device 3, right alone from device 7.
+                let mut cells = network::fresh();
+                cells[network::heard(1, 3, 1)] = left;
+                cells[network::heard(1, 3, 2)] = right;
+                cells[network::heard(1, 7, 2)] = right;
+                // One run over all forms would need one program: each form is a run of its own.
+                for form in forms {
+                    see(Case {
+                        network: cells.clone(),
+                        list: events::fire(1),
+                        ..case("each pair of edge numbers", Call::Event, &plain(form))
+                    });
+                }
+            }
+        }
+    }
+}
+
+/// Each cell with numbers around every limit, on a fresh and on a busy network.
+fn cells(see: &mut dyn FnMut(Case)) {
+    let program = plain(Tree::constant(1));
+    let all: Vec<u8> = (1..=16).collect();
+    let mut busy = network::fresh();
+    while busy == network::fresh() {
+        busy = network::sound(&all, &mut Random::new(11, 4));
+    }
+    for (start, numbers) in [
+        (network::fresh(), &[network::ABSENT, -1, 0, 1, 2, 65_535, 65_536, 1_000_000, 1_000_001][..]),
+        (busy, &[network::ABSENT, -1, 0, 2, 70_000][..]),
+    ] {
+        for cell in 0..network::CELLS {
+            let number = numbers[cell.wrapping_mul(7) % numbers.len()];
+            for number in [number, numbers[(cell / 16 + cell) % numbers.len()]] {
+                let mut cells = start.clone();
+                cells[cell] = number;
+                see(Case { network: cells, list: events::signal(1, 0, 1), ..case("each cell", Call::Event, &program) });
+            }
+        }
+    }
+}
+
+/// Each truncation and each flipped bit of some programs.
+fn programs(see: &mut dyn FnMut(Case)) {
+    let mut random = Random::new(21, 21);
+    let mut drafts = vec![grow::distance_to([1, 2], 0), grow::calculation(&mut random)];
+    for nodes in [3, 9, 14, 20, 27, 35] {
+        drafts
+            .push(grow::accepted(Shape { nodes, definitions: nodes / 9, cost: 999, spare: 0, deep: 10 }, &mut random));
+    }
+    for draft in drafts {
+        let program = bytes(&write(&draft, false, &mut random).fields);
+        for length in 0..program.len() {
+            see(case("each truncation", Call::Check, &program[..length]));
+        }
+        for bit in 0..8 * program.len() {
+            let mut flipped = program.clone();
+            flipped[bit / 8] ^= 1 << (bit % 8);
+            see(case("each bit", Call::Check, &flipped));
+        }
+    }
+}
+
+/// Each byte of each event over all its values, on a network where the event is possible.
+fn event_bytes(see: &mut dyn FnMut(Case)) {
+    let program = bytes(&write(&grow::distance_to([1, 2], 0), true, &mut Random::new(0, 0)).fields);
+    let mut cells = network::fresh();
+    for (a, b) in [(1, 2), (2, 1), (1, 16), (16, 1)] {
+        cells[network::heard(a, b, 0)] = 5;
+        cells[network::pending(a, b, 0)] = 1;
+        cells[network::pending(a, b, 1)] = 8;
+    }
+    let samples = [
+        events::fire(1),
+        events::deliver(1, 2),
+        events::lose(16, 1),
+        events::link(1, 2, 1_000_000),
+        events::signal(2, 1, 1),
+    ];
+    for event in samples {
+        for at in 0..event.len() {
+            for byte in 0..=255 {
+                let mut list = event.clone();
+                list[at] = byte;
+                for call in [Call::Event, Call::Run] {
+                    see(Case {
+                        network: cells.clone(),
+                        list: list.clone(),
+                        ..case("each byte of an event", call, &program)
+                    });
+                }
+            }
+        }
+        for length in 0..event.len() {
+            for call in [Call::Event, Call::Run] {
+                let list = event[..length].to_vec();
+                see(Case { network: cells.clone(), list, ..case("each truncation of an event", call, &program) });
+            }
+        }
+    }
+}
