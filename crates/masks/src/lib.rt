@@ -2,13 +2,9 @@
 // whether it is spatial. Also the parts of a word.
 ghost use mathlib.Core.Path.{_≡_};
 ghost use mathlib.Core.Bool.{true, false};
-ghost use Prim.Native.Nat.{ℕ, _<_};
+ghost use Prim.Native.Nat.{_<_};
 ghost use lib.ListN.{length};
-ghost use Rattle.program.specs.Table.{among};
-ghost use Rattle.program.specs.Tree.{spatial};
-ghost use Rattle.round.specs.Round.{reps};
 ghost use Rattle.words.specs.Word.{form, item, word};
-ghost use Rattle.words.specs.Trees.{treeAt};
 ghost use Rattle.masks.specs.Formed.{nodes, width, operand as operandAt, Formed, AllFormed};
 ghost use Rattle.masks.specs.Masks.{Masks, ownMask, hasBody, bodyMask, partMask, maskOf, Spatials, ownSpatial, bodySpatial, partSpatial, spatialOf};
 

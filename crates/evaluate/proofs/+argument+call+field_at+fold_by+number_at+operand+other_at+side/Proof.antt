@@ -280,7 +280,7 @@ field-at-mul-erase : (t : ℕ) → field-at-lts.Need-mul-erase (field-at-calls t
 field-at-mul-erase t c = search needs
 
 field-at-element-copy-out-erase : (t : ℕ) → field-at-lts.Need-element-copy-out-erase (field-at-calls t) (field-at-at t) field-at.Post
-field-at-element-copy-out-erase t c = let s = c .before .before .before .before .before .before .before .before .before .before .before .before in omega (arith, (c .before .before .third) .ensures, s .pre .1 .inside, (right (s .pre .1 .sound) (s .pre .1 .inside) .ifF (sym ((c .before .before .before .before .before .before .before .before .before .before .form-of) .ensures) ∙ ((c .before .before .before .before .before .before .before .before .before .match) .keys3))) .2 .0)
+field-at-element-copy-out-erase t c = let s = c .before .before .before .before .before .before .before .before .before .before .before .before in let r = right (s .pre .1 .sound) (s .pre .1 .inside) .ifF (sym ((c .before .before .before .before .before .before .before .before .before .before .form-of) .ensures) ∙ ((c .before .before .before .before .before .before .before .before .before .match) .keys3)) in omega (arith, (c .before .before .third) .ensures, (c .before .before .before .second) .ensures, s .pre .1 .inside, r .1 .0, r .2 .0)
 
 field-at-erase-requires : (t : ℕ) → field-at-lts.Need-erase-requires (field-at-calls t) (field-at-at t) field-at.Post
 field-at-erase-requires t c κs = search needs
@@ -295,7 +295,7 @@ field-at-mul-erase-2 : (t : ℕ) → field-at-lts.Need-mul-erase-2 (field-at-cal
 field-at-mul-erase-2 t c = search needs
 
 field-at-element-copy-out-erase-2 : (t : ℕ) → field-at-lts.Need-element-copy-out-erase-2 (field-at-calls t) (field-at-at t) field-at.Post
-field-at-element-copy-out-erase-2 t c = let s = c .before .before .before .before .before .before .before .before .before .before .before .before in omega (arith, (c .before .before .before .second) .ensures, s .pre .1 .inside, (right (s .pre .1 .sound) (s .pre .1 .inside) .ifF (sym ((c .before .before .before .before .before .before .before .before .before .before .form-of) .ensures) ∙ ((c .before .before .before .before .before .before .before .before .before .match) .keys3))) .1 .0)
+field-at-element-copy-out-erase-2 t c = let s = c .before .before .before .before .before .before .before .before .before .before .before .before in let r = right (s .pre .1 .sound) (s .pre .1 .inside) .ifF (sym ((c .before .before .before .before .before .before .before .before .before .before .form-of) .ensures) ∙ ((c .before .before .before .before .before .before .before .before .before .match) .keys3)) in omega (arith, (c .before .before .third) .ensures, (c .before .before .before .second) .ensures, s .pre .1 .inside, r .1 .0, r .2 .0)
 
 field-at-erase-requires-2 : (t : ℕ) → field-at-lts.Need-erase-requires-2 (field-at-calls t) (field-at-at t) field-at.Post
 field-at-erase-requires-2 t c κs = search needs
@@ -463,7 +463,7 @@ number-at-mul-erase : (t : ℕ) → number-at-lts.Need-mul-erase (number-at-call
 number-at-mul-erase t c = search needs
 
 number-at-element-copy-out-erase : (t : ℕ) → number-at-lts.Need-element-copy-out-erase (number-at-calls t) (number-at-at t) number-at.Post
-number-at-element-copy-out-erase t c = let s = c .before .before .before .before .before .before .before .before .before .before .before .before in omega (arith, (c .before .before .third) .ensures, s .pre .1 .inside, (right (s .pre .1 .sound) (s .pre .1 .inside) .ifN (sym ((c .before .before .before .before .before .before .before .before .before .before .form-of) .ensures) ∙ ((c .before .before .before .before .before .before .before .before .before .match) .keys2))) .2 .0)
+number-at-element-copy-out-erase t c = let s = c .before .before .before .before .before .before .before .before .before .before .before .before in let r = right (s .pre .1 .sound) (s .pre .1 .inside) .ifN (sym ((c .before .before .before .before .before .before .before .before .before .before .form-of) .ensures) ∙ ((c .before .before .before .before .before .before .before .before .before .match) .keys2)) in omega (arith, (c .before .before .third) .ensures, (c .before .before .before .second2) .ensures, s .pre .1 .inside, r .1 .0, r .2 .0)
 
 number-at-erase-requires : (t : ℕ) → number-at-lts.Need-erase-requires (number-at-calls t) (number-at-at t) number-at.Post
 number-at-erase-requires t c κs = search needs
@@ -478,7 +478,7 @@ number-at-mul-erase-2 : (t : ℕ) → number-at-lts.Need-mul-erase-2 (number-at-
 number-at-mul-erase-2 t c = search needs
 
 number-at-element-copy-out-erase-2 : (t : ℕ) → number-at-lts.Need-element-copy-out-erase-2 (number-at-calls t) (number-at-at t) number-at.Post
-number-at-element-copy-out-erase-2 t c = let s = c .before .before .before .before .before .before .before .before .before .before .before .before in omega (arith, (c .before .before .before .second2) .ensures, s .pre .1 .inside, (right (s .pre .1 .sound) (s .pre .1 .inside) .ifN (sym ((c .before .before .before .before .before .before .before .before .before .before .form-of) .ensures) ∙ ((c .before .before .before .before .before .before .before .before .before .match) .keys2))) .1 .0)
+number-at-element-copy-out-erase-2 t c = let s = c .before .before .before .before .before .before .before .before .before .before .before .before in let r = right (s .pre .1 .sound) (s .pre .1 .inside) .ifN (sym ((c .before .before .before .before .before .before .before .before .before .before .form-of) .ensures) ∙ ((c .before .before .before .before .before .before .before .before .before .match) .keys2)) in omega (arith, (c .before .before .third) .ensures, (c .before .before .before .second2) .ensures, s .pre .1 .inside, r .1 .0, r .2 .0)
 
 number-at-erase-requires-2 : (t : ℕ) → number-at-lts.Need-erase-requires-2 (number-at-calls t) (number-at-at t) number-at.Post
 number-at-erase-requires-2 t c κs = search needs

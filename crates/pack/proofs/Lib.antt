@@ -1,0 +1,8 @@
+pub mod Words
+pub mod Made
+pub mod Grown
+pub mod Tables
+pub mod Bodies
+pub mod Looks
+pub mod Sorts
+pub mod Pass

@@ -1,0 +1,203 @@
+-- Where no sort is broken, the words are as the evaluator requires; with a mask that is right, a node is. Assumes nothing.
+use mathlib.Core.Path.{_≡_, refl, sym, ap, _∙_}
+use mathlib.Core.Bool.{Bool, true, false, not, cond, _||_, true≢false}
+use mathlib.Core.List.{List}
+use Prim.Native.Nat.{ℕ, _/_, _%_, _^_, _≤_, _<_}
+use native.Mathlib.Omega.{arith}
+use lib.ListN.{getD}
+use lib.Dec.{eqb, leb}
+use borrow.Author.Tests.{leb-true, leb-false, lt-leb, not-false}
+use Rattle.program.specs.Table.{among}
+use Rattle.program.specs.Tree.{isField, sortBroken}
+use Rattle.program.proofs.Tests.{either}
+use Rattle.round.specs.Round.{reps}
+use Rattle.words.specs.Word.{form, item, p1, p2, p3, p4, body, word}
+use Rattle.words.specs.Trees.{treeAt}
+use Rattle.words.specs.Sound.{Num, Fld, Arg, Right}
+use Rattle.masks.specs.Formed.{nodes, widths, operand, AllFormed}
+use Rattle.masks.proofs.Trees.{argOf, tree-3, tree-4, tree-5, tree-6, tree-7, tree-8, tree-9, tree-10, tree-16, tree-18, tree-19, width-of}
+use Rattle.pack.specs.Sorted.{Sorted}
+
+pub right : {ws us : List ℕ} {n : ℕ} → Sorted ws n → ((v : ℕ) → v < 16 → eqb (getD us n 0 / 2 ^ v % 2) 1 ≡ among v (reps (treeAt ws n))) → Right ws us n
+right s m =
+    record {
+      known = s .known;
+      number = s .number;
+      param = s .param;
+      oper = s .oper;
+      sense = s .sense;
+      rep = s .rep;
+      ifN = s .ifN;
+      mux = s .mux;
+      foldBy = s .foldBy;
+      call = s .call;
+      foldOp = s .foldOp;
+      nbr = s .nbr;
+      ifF = s .ifF;
+      operF = s .operF;
+      side = s .side;
+      mask = m;
+    }
+
+-- an if's branches have one sort
+one-sort : (a b : Bool) → not (cond a b (not b)) ≡ false → b ≡ a
+one-sort true true e = refl
+one-sort true false e = absurd (true≢false e)
+one-sort false true e = absurd (true≢false e)
+one-sort false false e = refl
+
+-- of an or that holds with its first side false, the second holds
+other : (a b : Bool) → a || b ≡ true → a ≡ false → b ≡ true
+other true b e f = absurd (true≢false f)
+other false b e f = e
+
+-- the sorts of a node's operands, and of its body, are known by their words
+pub record Known (ws : List ℕ) (n : ℕ) : Type 0 where
+  pub fields : (k : ℕ) → k < nodes → leb 16 (form (word ws k)) ≡ isField (treeAt ws k)
+  pub whole : sortBroken (treeAt ws n) ≡ false
+  pub folds : form (word ws n) ≡ 8 → isField (treeAt ws (body (word ws n))) ≡ false
+  pub calls : form (word ws n) ≡ 9 → isField (treeAt ws (body (word ws n))) ≡ false
+  -- an argument that is not there is some node before n all the same
+  pub absent : form (word ws n) ≡ 9 → (p1 (word ws n) < n) × (p2 (word ws n) < n) × (p3 (word ws n) < n) × (p4 (word ws n) < n)
+
+module _ (ws : List ℕ) (n : ℕ) (l : n < nodes) (all : AllFormed ws) (s : Known ws n) where
+  num : (k : ℕ) → k < n → isField (treeAt ws k) ≡ false → Num ws n k
+  num k h e =
+      let m : k < nodes = omega arith in
+      (h, all .node k m .number (leb-false 16 (form (word ws k)) (s .fields k m ∙ e)))
+
+  fld : (k : ℕ) → k < n → isField (treeAt ws k) ≡ true → Fld ws n k
+  fld k h e = (h, leb-true 16 (form (word ws k)) (s .fields k (omega arith) ∙ e))
+
+  op : (j m : ℕ) → form (word ws n) ≡ m → eqb m 9 ≡ false → j < 4 → j < getD widths m 0 → operand (word ws n) j < n
+  op j m h e a b = all .node n l .operands j a (rw (width-of (word ws n) m h e) b)
+
+  -- the node's own sort
+  own : (m : ℕ) → form (word ws n) ≡ m → isField (treeAt ws n) ≡ leb 16 m
+  own m h = sym (s .fields n l) ∙ ap (leb 16) h
+
+  oper : form (word ws n) ≡ 3 → Num ws n (p1 (word ws n)) × Num ws n (p2 (word ws n))
+  unfolding isField
+  oper h =
+      let a : p1 (word ws n) < n = op 0 3 h refl (omega arith) (omega arith) in
+      let b : p2 (word ws n) < n = op 1 3 h refl (omega arith) (omega arith) in
+      let q = either _ _ (sym (ap isField (tree-3 ws n h a b)) ∙ own 3 h) in
+      (num _ a (q .0), num _ b (q .1))
+
+  sense : form (word ws n) ≡ 4 → Num ws n (p1 (word ws n))
+  unfolding sortBroken
+  sense h =
+      let a : p1 (word ws n) < n = op 0 4 h refl (omega arith) (omega arith) in
+      num _ a (sym (ap sortBroken (tree-4 ws n h a)) ∙ s .whole)
+
+  rep : form (word ws n) ≡ 5 → Num ws n (p1 (word ws n)) × Num ws n (p2 (word ws n))
+  unfolding sortBroken
+  rep h =
+      let a : p1 (word ws n) < n = op 0 5 h refl (omega arith) (omega arith) in
+      let b : p2 (word ws n) < n = op 1 5 h refl (omega arith) (omega arith) in
+      let q = either _ _ (sym (ap sortBroken (tree-5 ws n h a b)) ∙ s .whole) in
+      (num _ a (q .0), num _ b (q .1))
+
+  ifN : form (word ws n) ≡ 6 → Num ws n (p1 (word ws n)) × Num ws n (p2 (word ws n)) × Num ws n (p3 (word ws n))
+  unfolding isField sortBroken
+  ifN h =
+      let a : p1 (word ws n) < n = op 0 6 h refl (omega arith) (omega arith) in
+      let b : p2 (word ws n) < n = op 1 6 h refl (omega arith) (omega arith) in
+      let c : p3 (word ws n) < n = op 2 6 h refl (omega arith) (omega arith) in
+      let e = tree-6 ws n h a b c in
+      let q = either _ _ (sym (ap sortBroken e) ∙ s .whole) in
+      let f : isField (treeAt ws (p2 (word ws n))) ≡ false = sym (ap isField e) ∙ own 6 h in
+      (num _ a (q .0), num _ b f, num _ c (one-sort (isField (treeAt ws (p2 (word ws n)))) (isField (treeAt ws (p3 (word ws n)))) (q .1) ∙ f))
+
+  mux : form (word ws n) ≡ 7 → Num ws n (p1 (word ws n)) × Num ws n (p2 (word ws n)) × Num ws n (p3 (word ws n))
+  unfolding sortBroken
+  mux h =
+      let a : p1 (word ws n) < n = op 0 7 h refl (omega arith) (omega arith) in
+      let b : p2 (word ws n) < n = op 1 7 h refl (omega arith) (omega arith) in
+      let c : p3 (word ws n) < n = op 2 7 h refl (omega arith) (omega arith) in
+      let q = either _ _ (sym (ap sortBroken (tree-7 ws n h a b c)) ∙ s .whole) in
+      let r = either _ _ (q .0) in
+      (num _ a (r .0), num _ b (r .1), num _ c (q .1))
+
+  foldBy : form (word ws n) ≡ 8 → Num ws n (body (word ws n)) × Num ws n (p1 (word ws n)) × Fld ws n (p2 (word ws n))
+  unfolding sortBroken
+  foldBy h =
+      let o : body (word ws n) < n = all .node n l .folds h in
+      let a : p1 (word ws n) < n = op 0 8 h refl (omega arith) (omega arith) in
+      let b : p2 (word ws n) < n = op 1 8 h refl (omega arith) (omega arith) in
+      let q = either _ _ (sym (ap sortBroken (tree-8 ws n h o a b)) ∙ s .whole) in
+      (num _ o (s .folds h), num _ a (q .0), fld _ b (not-false _ (q .1)))
+
+  argument : (j k : ℕ) → k < n → isField (argOf ws (word ws n) j k) ≡ false → Arg ws n j k
+  argument j k h e = (h, λ t. num k h (rw t at e) .1)
+
+  call : form (word ws n) ≡ 9
+      → Num ws n (body (word ws n))
+      × Arg ws n 0 (p1 (word ws n)) × Arg ws n 1 (p2 (word ws n)) × Arg ws n 2 (p3 (word ws n)) × Arg ws n 3 (p4 (word ws n))
+  unfolding sortBroken
+  call h =
+      let o : body (word ws n) < n = all .node n l .calls h in
+      let a = s .absent h in
+      let q = either _ _ (sym (ap sortBroken (tree-9 ws n h o (λ _. a .0) (λ _. a .1) (λ _. a .2) (λ _. a .3))) ∙ s .whole) in
+      let r = either _ _ (q .0) in
+      let t = either _ _ (r .0) in
+      (num _ o (s .calls h), argument 0 _ (a .0) (t .0), argument 1 _ (a .1) (t .1), argument 2 _ (a .2) (r .1), argument 3 _ (a .3) (q .1))
+
+  foldOp : form (word ws n) ≡ 10 → Num ws n (p1 (word ws n)) × Fld ws n (p2 (word ws n))
+  unfolding sortBroken
+  foldOp h =
+      let a : p1 (word ws n) < n = op 0 10 h refl (omega arith) (omega arith) in
+      let b : p2 (word ws n) < n = op 1 10 h refl (omega arith) (omega arith) in
+      let q = either _ _ (sym (ap sortBroken (tree-10 ws n h a b)) ∙ s .whole) in
+      (num _ a (q .0), fld _ b (not-false _ (q .1)))
+
+  nbr : form (word ws n) ≡ 16 → Num ws n (p1 (word ws n))
+  unfolding sortBroken
+  nbr h =
+      let a : p1 (word ws n) < n = op 0 16 h refl (omega arith) (omega arith) in
+      num _ a (sym (ap sortBroken (tree-16 ws n h a)) ∙ s .whole)
+
+  ifF : form (word ws n) ≡ 18 → Num ws n (p1 (word ws n)) × Fld ws n (p2 (word ws n)) × Fld ws n (p3 (word ws n))
+  unfolding isField sortBroken
+  ifF h =
+      let a : p1 (word ws n) < n = op 0 18 h refl (omega arith) (omega arith) in
+      let b : p2 (word ws n) < n = op 1 18 h refl (omega arith) (omega arith) in
+      let c : p3 (word ws n) < n = op 2 18 h refl (omega arith) (omega arith) in
+      let e = tree-18 ws n h a b c in
+      let q = either _ _ (sym (ap sortBroken e) ∙ s .whole) in
+      let f : isField (treeAt ws (p2 (word ws n))) ≡ true = sym (ap isField e) ∙ own 18 h in
+      (num _ a (q .0), fld _ b f, fld _ c (one-sort (isField (treeAt ws (p2 (word ws n)))) (isField (treeAt ws (p3 (word ws n)))) (q .1) ∙ f))
+
+  operF : form (word ws n) ≡ 19 → (p1 (word ws n) < n) × (p2 (word ws n) < n)
+  operF h = (op 0 19 h refl (omega arith) (omega arith), op 1 19 h refl (omega arith) (omega arith))
+
+  side : form (word ws n) ≡ 19 → form (word ws (p1 (word ws n))) < 16 → 16 ≤ form (word ws (p2 (word ws n)))
+  unfolding isField
+  side h g =
+      let a : p1 (word ws n) < n = operF h .0 in
+      let b : p2 (word ws n) < n = operF h .1 in
+      let m : p1 (word ws n) < nodes = omega arith in
+      fld _ b
+      (other (isField (treeAt ws (p1 (word ws n)))) (isField (treeAt ws (p2 (word ws n)))) (sym (ap isField (tree-19 ws n h a b)) ∙ own 19 h)
+      (sym (s .fields (p1 (word ws n)) m) ∙ lt-leb 16 (form (word ws (p1 (word ws n)))) g))
+      .1
+
+  pub sorted : (form (word ws n) ≡ 1 → item (word ws n) < 4) → Sorted ws n
+  sorted p =
+      record {
+        known = all .node n l .known;
+        number = all .node n l .number;
+        param = p;
+        oper = oper;
+        sense = sense;
+        rep = rep;
+        ifN = ifN;
+        mux = mux;
+        foldBy = foldBy;
+        call = call;
+        foldOp = foldOp;
+        nbr = nbr;
+        ifF = ifF;
+        operF = operF;
+        side = side;
+      }

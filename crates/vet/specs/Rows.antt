@@ -1,0 +1,51 @@
+-- What the rows over all nodes go by. Internal: no public contract cites it. Definitions only: nothing is assumed.
+use mathlib.Core.Path.{_≡_}
+use mathlib.Core.List.{List, [], _++_}
+use Prim.Native.Nat.{ℕ, _<_}
+use lib.ListN.{length, getD}
+use Rattle.program.specs.Table as program
+use Rattle.program.specs.Tree.{tree, misread}
+use Rattle.program.specs.Check.{misreadIn, treeRows}
+use Rattle.words.specs.Word.{form, word}
+use Rattle.words.specs.Trees.{treeAt}
+use Rattle.verdict.specs.declared.Verdict.{Verdict}
+use Rattle.verdict.specs.Pair.{pair}
+use Rattle.masks.specs.Formed.{nodes, AllFormed}
+use Rattle.nodes.specs.declared.Node.{Node}
+use Rattle.load.specs.declared.Table.{Table}
+use Rattle.load.specs.Loads.{tableOf, nodeAt, Good}
+use Rattle.pack.specs.Sorted.{Sorted}
+
+abbrev pub kindOf : Node → ℕ
+kindOf x = x .kind
+
+abbrev pub itemOf : Node → ℕ
+itemOf x = x .item
+
+-- xs has what f takes of each node below n
+pub record Column (f : Node → ℕ) (t : Table) (xs : List ℕ) (n : ℕ) : Type 0 where
+  pub long : length xs ≡ nodes
+  pub each : (k : ℕ) → k < n → getD xs k 0 ≡ f (nodeAt t k)
+
+-- a loaded table and its words
+pub record Packed (t : Table) (ws : List ℕ) : Type 0 where
+  pub good : Good t
+  pub given : t .main < t .n
+  pub formed : AllFormed ws
+  pub trees : (n : ℕ) → n < t .n → treeAt ws n ≡ tree (tableOf t) n
+
+-- the nodes that misread, in main's tree and in those of the definitions
+abbrev pub misreads : program.Table → ℕ → List ℕ
+misreads t main = misread 0 [] (tree t main) ++ misreadIn t (t .definitions)
+
+-- what the evaluator requires of a table's words, but for the masks
+pub record Runs (t : Table) (ws : List ℕ) : Type 0 where
+  pub packed : Packed t ws
+  pub sorted : (n : ℕ) → n < nodes → Sorted ws n
+  pub number : form (word ws (t .main)) < 11
+
+-- v is the verdict of the rows over all nodes
+pub record Rows (t : Table) (ws : List ℕ) (v : Verdict) : Type 0 where
+  pub verdict : pair v ≡ treeRows (tableOf t) (t .main)
+  pub none : v .number ≡ 0 → pair v ≡ (0, 0)
+  pub runs : v .number ≡ 0 → Runs t ws
