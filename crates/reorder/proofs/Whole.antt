@@ -48,15 +48,15 @@ answered same main n l space r e k h =
 -- both runs are carried out, from equal networks; `orders-run-alike` does the rest
 pub demand-3 : (same : Discrete Entry) → Demand3 same
 unfolding performed
-demand-3 same program p n n′ sn sn′ cells s t l m rl rm x y hx hy events order =
+demand-3 same program n n′ s t x y l m g =
     let main : Expr = mainOf program in
-    let g : Whole n = whole n sn in
-    let equal : n ≡ n′ = ext-getD (pos 0) n n′ (g ∙ sym (whole n′ sn′)) (λ i _. cells i) in
-    let alike = orders-run-alike same (step main) Whole (λ n e. stays main n (eventOf e)) entriesClash (entries-commute main) l m events order n g in
-    rw (run-performed program n s x l p sn rl hx, run-performed program n′ t y m p sn′ rm hy, ← equal)
+    let w : Whole n = whole n (g .sound) in
+    let equal : n ≡ n′ = ext-getD (pos 0) n n′ (w ∙ sym (whole n′ (g .sound′))) (λ i _. g .alike i) in
+    let alike = orders-run-alike same (step main) Whole (λ n e. stays main n (eventOf e)) entriesClash (entries-commute main) l m (g .events) (g .order) n w in
+    rw (run-performed program n s x l (g .accepted) (g .sound) (g .read) (g .fits), run-performed program n′ t y m (g .accepted) (g .sound′) (g .read′) (g .fits′), ← equal)
     (record {
       first = refl;
       second = refl;
       cells = alike .0;
-      answers = λ e k h. answered same main n l x hx e k h ∙ ap orZeros (alike .1 e k) ∙ sym (answered same main n m y hy e k (rw events at h));
+      answers = λ e k h. answered same main n l x (g .fits) e k h ∙ ap orZeros (alike .1 e k) ∙ sym (answered same main n m y (g .fits′) e k (rw (g .events) at h));
     })

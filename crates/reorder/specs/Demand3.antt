@@ -2,6 +2,7 @@
 -- `proofs/Whole.antt` proves it.
 use mathlib.Core.Path.{_≡_}
 use mathlib.Core.HLevel.{Discrete}
+use mathlib.Core.Bool.{Bool}
 use mathlib.Core.List.{List}
 use Prim.Native.Nat.{ℕ, _+_, _*_, _<_}
 use lib.ListN.{getD}
@@ -26,13 +27,21 @@ pub record RunAlike (same : Discrete Entry) (l m : List Entry) (r q : Result) : 
   pub answers : (e : Entry) (k : ℕ) → k < count same e l → answerAt (r .space) (place same e k l) ≡ answerAt (q .space) (place same e k m)
 
 -- "two runs of one accepted program, each on a network slice of its own, both sound and alike in every cell at the start", of lists s and t that read as
--- the entries l and m, with room for the answers in x and y. Copies are counted from 0 here
+-- the entries l and m, orders of the same events in which clashing events keep their order, with room for the answers in x and y. Copies are counted from 0 here
+pub record Given (clash : Entry → Entry → Bool) (same : Discrete Entry) (program : List ℕ) (n n′ : List ℤ) (s t : List ℕ) (x y : List ℤ) (l m : List Entry) : Type 0 where
+  pub accepted : check program ≡ (0, 0)
+  pub sound : soundness n ≡ (0, 0)
+  pub sound′ : soundness n′ ≡ (0, 0)
+  pub alike : (c : ℕ) → getD n c (pos 0) ≡ getD n′ c (pos 0)
+  pub read : readList s ≡ entries l
+  pub read′ : readList t ≡ entries m
+  pub fits : room l x ≡ (0, 0)
+  pub fits′ : room m y ≡ (0, 0)
+  pub events : SameEvents same l m
+  pub order : KeepsOrder same clash l m
+
 abbrev pub Demand3 : Discrete Entry → Type 0
 Demand3 same =
-    (program : List ℕ) → check program ≡ (0, 0)
-    → (n n′ : List ℤ) → soundness n ≡ (0, 0) → soundness n′ ≡ (0, 0) → ((c : ℕ) → getD n c (pos 0) ≡ getD n′ c (pos 0))
-    → (s t : List ℕ) (l m : List Entry) → readList s ≡ entries l → readList t ≡ entries m
-    → (x y : List ℤ) → room l x ≡ (0, 0) → room m y ≡ (0, 0)
-    → SameEvents same l m
-    → KeepsOrder same entriesClash l m
+    (program : List ℕ) (n n′ : List ℤ) (s t : List ℕ) (x y : List ℤ) (l m : List Entry)
+    → Given entriesClash same program n n′ s t x y l m
     → RunAlike same l m (run program n s x) (run program n′ t y)

@@ -1,2 +1,3 @@
 pub mod Clash
 pub mod Demand3
+pub mod Same
