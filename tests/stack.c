@@ -1,93 +1,321 @@
 // How much stack a public call takes: the call runs on a thread whose stack is filled with a pattern, and what is no longer the
-// pattern afterwards was used. A thread that does nothing is taken off. Prints a line a case and 'N passed, M failed'.
+// pattern afterwards was used. A thread that does nothing is taken off. Each call is then done again on a thread that has no more
+// stack than the limit. Prints a line a case and 'N passed, M failed'.
 #define _GNU_SOURCE
+#include "cuddystove.h"
 #include <pthread.h>
-#include <stdint.h>
 #include <stdio.h>
 #include <stdlib.h>
 #include <string.h>
 
-struct verdict {
-    uint32_t number;
-    size_t place;
-};
-struct verdict cuddystove_check(const uint8_t *program, size_t length);
-
-enum { STACK = 1 << 20, PATTERN = 0xa5, CHECK_LIMIT = 128 << 10 };
+#ifndef CHECK_LIMIT
+#define CHECK_LIMIT (128 << 10)
+#endif
+#ifndef CALL_LIMIT
+#define CALL_LIMIT (256 << 10)
+#endif
+enum { STACK = 1 << 20, PATTERN = 0xa5 };
 
 static uint8_t program[8192];
 static size_t length;
-static struct verdict verdict;
+static int nodes, definitions;
+static struct cuddystove_verdict verdict, other_verdict;
+static int32_t network[CUDDYSTOVE_CELLS], other_network[CUDDYSTOVE_CELLS];
+static int32_t answer[2], other_answer[2];
+static const uint8_t fire[] = {CUDDYSTOVE_FIRE(1)};
+static size_t idle;
 static int passed, failed;
+
+// ---- Programs
+
+static void start(void) {
+    length = 0;
+    nodes = 0;
+    definitions = 0;
+}
 
 static void bytes(int count, const int *from) {
     for (int i = 0; i < count; i++) program[length++] = (uint8_t)from[i];
 }
 #define PUT(...) bytes(sizeof((int[]){__VA_ARGS__}) / sizeof(int), (int[]){__VA_ARGS__})
+// A node; gives its number.
+#define NODE(...) (PUT(1, 0, sizeof((int[]){__VA_ARGS__}) / sizeof(int)), PUT(__VA_ARGS__), nodes++)
+
+static int constant(int n) { return NODE(CUDDYSTOVE_CONSTANT, 0, 0, 0, n); }
+static int plus(int left, int right) { return NODE(CUDDYSTOVE_OPERATOR, CUDDYSTOVE_PLUS, left, right); }
+static int define(int parameters, int body) {
+    PUT(2, 0, 2, parameters, body);
+    return definitions++;
+}
+static void end(int node) { PUT(3, 0, 1, node); }
+
+// Senses around a node.
+static int senses(int count, int node) {
+    while (count-- > 0) node = NODE(CUDDYSTOVE_SENSE, node);
+    return node;
+}
+
+// A chain of sense nodes over 1, as long as a table may be. Sensor 1 is lit, so each gives 1.
+static void chain(int count) {
+    start();
+    end(senses(count - 1, constant(1)));
+}
+
+// 1 + (1 + (.. 1)), or the other way round: as many ones as there is room for.
+static void sums(int right) {
+    int node;
+    start();
+    node = constant(1);
+    while (nodes + 2 <= CUDDYSTOVE_NODES) {
+        int one = constant(1);
+        node = plus(right ? one : node, right ? node : one);
+    }
+    end(node);
+}
+
+// Ifs or muxes in each other's operand `at`: condition, then, else. The operand is taken, and all is 1.
+static void choices(int kind, int at) {
+    int node;
+    start();
+    node = constant(1);
+    while (nodes + 3 <= CUDDYSTOVE_NODES) {
+        int operand[3] = {node, node, node};
+        for (int i = 0; i < 3; i++) {
+            if (i != at) operand[i] = constant(i == 0 && at == 2 ? 0 : 1);
+        }
+        node = NODE(kind, operand[0], operand[1], operand[2]);
+    }
+    end(node);
+}
+
+// Reps in each other's update (the sixteen there are), senses around.
+static void reps(void) {
+    int node;
+    start();
+    node = constant(1);
+    for (int v = 0; v < CUDDYSTOVE_VARIABLES; v++) {
+        int initial = constant(1);
+        node = NODE(CUDDYSTOVE_REP, v, initial, node);
+    }
+    end(senses(CUDDYSTOVE_NODES - nodes, node));
+}
+
+// Calls in each other's argument.
+static void arguments(void) {
+    int node;
+    start();
+    define(1, NODE(CUDDYSTOVE_PARAMETER, 0));
+    node = constant(1);
+    while (nodes < CUDDYSTOVE_NODES) node = NODE(CUDDYSTOVE_CALL, 0, node);
+    end(node);
+}
+
+// Calls through 32 definitions, with senses in each, or all at the bottom.
+static void calls(int spread) {
+    int left = CUDDYSTOVE_NODES - CUDDYSTOVE_DEFINITIONS - 1;
+    start();
+    define(0, senses(spread ? left - left / 32 * 31 : left, constant(1)));
+    while (definitions < CUDDYSTOVE_DEFINITIONS) define(0, senses(spread ? left / 32 : 0, NODE(CUDDYSTOVE_CALL, definitions - 1)));
+    end(NODE(CUDDYSTOVE_CALL, definitions - 1));
+}
+
+// Calls through 31 definitions, at the bottom a fold by definition, whose body is a chain of senses. Sensors 10 and 0 are not lit: 0.
+static void fold_by(void) {
+    int initial, range;
+    start();
+    define(2, senses(CUDDYSTOVE_NODES - 1 - 3 - 31, NODE(CUDDYSTOVE_PARAMETER, 1)));
+    initial = constant(7);
+    range = NODE(CUDDYSTOVE_NBR_RANGE, 1);
+    define(0, NODE(CUDDYSTOVE_FOLD_BY, 0, initial, range));
+    while (definitions < CUDDYSTOVE_DEFINITIONS) define(0, NODE(CUDDYSTOVE_CALL, definitions - 1));
+    end(NODE(CUDDYSTOVE_CALL, definitions - 1));
+}
+
+// A fold of a chain of field operators, at the bottom of calls through that many definitions: each device's range and a 1 a level.
+static void fields(int through, int right) {
+    int initial, field, node, levels = (CUDDYSTOVE_NODES - 3 - through) / 2;
+    start();
+    initial = constant(0);
+    field = NODE(CUDDYSTOVE_NBR_RANGE, 1);
+    for (int i = 0; i < levels; i++) {
+        int one = constant(1);
+        field = plus(right ? one : field, right ? field : one);
+    }
+    node = NODE(CUDDYSTOVE_FOLD, CUDDYSTOVE_PLUS, initial, field);
+    for (int d = 0; d < through; d++) {
+        define(0, node);
+        node = NODE(CUDDYSTOVE_CALL, d);
+    }
+    end(node);
+}
+
+// Folds in each other's nbr, with sums on the way, fifteen deep.
+static void folds(void) {
+    int node, more;
+    start();
+    node = constant(1);
+    for (int slot = 1; slot < CUDDYSTOVE_ROW; slot++) {
+        int initial = constant(1), field = NODE(CUDDYSTOVE_NBR, slot, node);
+        for (more = 0; more < 6; more++) {
+            int one = constant(1);
+            field = plus(field, one);
+        }
+        node = NODE(CUDDYSTOVE_FOLD, CUDDYSTOVE_TIMES, initial, field);
+    }
+    end(node);
+}
+
+// Definitions that each call the one before twice: more than 2^32 nodes, if they were written out.
+static void tower(int count) {
+    start();
+    define(0, constant(1));
+    while (definitions < count) {
+        int left = NODE(CUDDYSTOVE_CALL, definitions - 1), right = NODE(CUDDYSTOVE_CALL, definitions - 1);
+        define(0, plus(left, right));
+    }
+    end(NODE(CUDDYSTOVE_CALL, count - 1));
+}
+
+// ---- Calls
 
 static void *nothing(void *unused) { return unused; }
 static void *check(void *unused) {
     verdict = cuddystove_check(program, length);
     return unused;
 }
+static void *event(void *unused) {
+    verdict = cuddystove_event(program, length, network, CUDDYSTOVE_CELLS, fire, sizeof fire, answer, 2);
+    return unused;
+}
+static void *run(void *unused) {
+    verdict = cuddystove_run(program, length, network, CUDDYSTOVE_CELLS, fire, sizeof fire, answer, 2);
+    return unused;
+}
+static void *run_both(void *unused) {
+    struct cuddystove_verdicts v =
+        cuddystove_run_both(program, length, network, CUDDYSTOVE_CELLS, other_network, CUDDYSTOVE_CELLS, fire, sizeof fire, fire,
+                            sizeof fire, answer, 2, other_answer, 2);
+    verdict = (struct cuddystove_verdict){v.number1, v.place1};
+    other_verdict = (struct cuddystove_verdict){v.number2, v.place2};
+    return unused;
+}
+static void *fresh(void *unused) {
+    verdict = cuddystove_fresh(network, CUDDYSTOVE_CELLS);
+    return unused;
+}
+
+// Device 1 with sensor 1 lit, every variable 1, and each other device at 10, heard with 0 in slot 1: folds go over fifteen devices.
+static void prepare(int32_t *cells) {
+    cuddystove_fresh(cells, CUDDYSTOVE_CELLS);
+    cells[CUDDYSTOVE_AT_SENSORS(1)] = 1 << 1;
+    for (int v = 0; v < CUDDYSTOVE_VARIABLES; v++) cells[CUDDYSTOVE_AT_VARIABLE(1, v)] = 1;
+    for (int b = 2; b <= CUDDYSTOVE_DEVICES; b++) {
+        cells[CUDDYSTOVE_AT_DISTANCE(1, b)] = 10;
+        cells[CUDDYSTOVE_AT_HEARD(1, b, 1)] = 0;
+    }
+}
+
+static void on_thread(pthread_attr_t *how, void *(*work)(void *)) {
+    pthread_t thread;
+    prepare(network);
+    prepare(other_network);
+    answer[0] = answer[1] = other_answer[0] = other_answer[1] = -1;
+    if (pthread_create(&thread, how, work, NULL) != 0) abort();
+    pthread_join(thread, NULL);
+}
 
 static size_t used(void *(*work)(void *)) {
     unsigned char *stack = aligned_alloc(4096, STACK);
     pthread_attr_t how;
-    pthread_t thread;
     size_t untouched = 0;
+    if (stack == NULL) abort();
     memset(stack, PATTERN, STACK);
     pthread_attr_init(&how);
     pthread_attr_setstack(&how, stack, STACK);
-    if (pthread_create(&thread, &how, work, NULL) != 0) abort();
-    pthread_join(thread, NULL);
+    on_thread(&how, work);
     while (untouched < STACK && stack[untouched] == PATTERN) untouched++;
     free(stack);
     return STACK - untouched;
 }
 
-static void expect(const char *what, uint32_t number, size_t place, size_t idle) {
-    size_t stack = used(check) - idle;
-    int good = verdict.number == number && verdict.place == place && stack < CHECK_LIMIT;
-    printf("%s: %u %zu, %zu bytes of stack%s\n", what, verdict.number, verdict.place, stack, good ? "" : ": FAILED");
+// Whether the call did what it should, each time.
+static int as_expected(void *(*work)(void *), uint32_t number, size_t place, int32_t value) {
+    if (verdict.number != number || verdict.place != place) return 0;
+    if (work == check || work == fresh) return 1;
+    if (work == run_both && (other_verdict.number != number || other_verdict.place != place)) return 0;
+    if (work == run_both && (other_answer[0] != 0 || other_answer[1] != value)) return 0;
+    return answer[0] == 0 && answer[1] == value;
+}
+
+static void expect(const char *what, void *(*work)(void *), uint32_t number, size_t place, int32_t value) {
+    size_t stack = used(work) - idle, limit = work == check ? CHECK_LIMIT : CALL_LIMIT;
+    int good = as_expected(work, number, place, value) && stack + idle <= limit;
+    if (good) {
+        pthread_attr_t how;
+        pthread_attr_init(&how);
+        if (pthread_attr_setstacksize(&how, limit) != 0) abort();
+        on_thread(&how, work);
+        good = as_expected(work, number, place, value);
+    }
+    printf("%s: %u %zu", what, verdict.number, verdict.place);
+    if (work != check && work != fresh) printf(", answer %d %d", answer[0], answer[1]);
+    printf(", %zu bytes of stack%s\n", stack, good ? "" : ": FAILED");
     if (good) passed++;
     else failed++;
 }
 
-// A chain of sense nodes over a constant, as long as a table may be.
-static void chain(int nodes) {
-    length = 0;
-    PUT(1, 0, 5, 0, 0, 0, 0, 1);
-    for (int n = 1; n < nodes; n++) PUT(1, 0, 2, 4, n - 1);
-    PUT(3, 0, 1, nodes - 1);
-}
-
-// Definitions that each call the one before twice: more than 2^32 nodes, if they were written out.
-static void tower(int definitions) {
-    int n = 1;
-    length = 0;
-    PUT(1, 0, 5, 0, 0, 0, 0, 1);
-    PUT(2, 0, 2, 0, 0);
-    for (int d = 1; d < definitions; d++, n += 3) {
-        PUT(1, 0, 2, 12, d - 1);
-        PUT(1, 0, 2, 12, d - 1);
-        PUT(1, 0, 4, 3, 0, n, n + 1);
-        PUT(2, 0, 2, 0, n + 2);
-    }
-    PUT(1, 0, 2, 12, definitions - 1);
-    PUT(3, 0, 1, n);
-}
-
 int main(void) {
-    size_t idle = used(nothing);
+    idle = used(nothing);
     chain(256);
-    expect("check, a chain of 256 nodes", 0, 0, idle);
+    expect("check, a chain of 256 nodes", check, 0, 0, 0);
+    expect("event, a chain of 256 nodes: senses", event, 0, 0, 1);
     chain(257);
-    expect("check, a chain of 257 nodes", 2, 256, idle);
+    expect("check, a chain of 257 nodes", check, 2, 256, 0);
     tower(32);
-    expect("check, a tower of 32 definitions", 10, 0, idle);
+    expect("check, a tower of 32 definitions", check, 10, 0, 0);
     tower(16);
-    expect("check, a tower of 16 definitions", 0, 0, idle);
+    expect("check, a tower of 16 definitions", check, 0, 0, 0);
+    expect("event, a tower of 16 definitions", event, 0, 0, 1 << 15);
+    sums(0);
+    expect("event, 127 sums, each the left side of the next", event, 0, 0, 128);
+    sums(1);
+    expect("event, 127 sums, each the right side of the next", event, 0, 0, 128);
+    for (int at = 0; at < 3; at++) {
+        static const char *const operand[] = {"condition", "then", "else"};
+        char what[80];
+        snprintf(what, sizeof what, "event, 85 ifs, each the %s of the next", operand[at]);
+        choices(CUDDYSTOVE_IF, at);
+        expect(what, event, 0, 0, 1);
+        snprintf(what, sizeof what, "event, 85 muxes, each the %s of the next", operand[at]);
+        choices(CUDDYSTOVE_MUX, at);
+        expect(what, event, 0, 0, 1);
+    }
+    reps();
+    expect("event, 16 reps, each in the update of the next, in 223 senses", event, 0, 0, 1);
+    arguments();
+    expect("check, 254 calls, each the argument of the next", check, 0, 0, 0);
+    expect("event, 254 calls, each the argument of the next", event, 0, 0, 1);
+    calls(0);
+    expect("check, calls through 32 definitions, 223 senses at the bottom", check, 0, 0, 0);
+    expect("event, calls through 32 definitions, 223 senses at the bottom", event, 0, 0, 1);
+    calls(1);
+    expect("check, calls through 32 definitions, 223 senses among them", check, 0, 0, 0);
+    expect("event, calls through 32 definitions, 223 senses among them", event, 0, 0, 1);
+    fold_by();
+    expect("check, calls through 31 definitions to a fold by definition, 221 senses in its body", check, 0, 0, 0);
+    expect("event, calls through 31 definitions to a fold by definition, 221 senses in its body", event, 0, 0, 0);
+    fields(0, 0);
+    expect("check, 126 sums of fields in a fold, nested left", check, 0, 0, 0);
+    expect("event, 126 sums of fields in a fold, nested left", event, 0, 0, 15 * 136);
+    fields(0, 1);
+    expect("event, 126 sums of fields in a fold, nested right", event, 0, 0, 15 * 136);
+    fields(32, 0);
+    expect("event, 110 sums of fields in a fold, below calls through 32 definitions", event, 0, 0, 15 * 120);
+    expect("run, the same", run, 0, 0, 15 * 120);
+    expect("run_both, the same", run_both, 0, 0, 15 * 120);
+    folds();
+    expect("event, 15 folds, each in the nbr of the next, of 6 sums each", event, 0, 0, 1);
+    expect("fresh", fresh, 0, 0, 0);
     printf("%d passed, %d failed\n", passed, failed);
     return failed != 0;
 }

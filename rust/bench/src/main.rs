@@ -1,4 +1,6 @@
-//! Times engines side by side: in each round every engine does the same work once, in turn; medians over the rounds.
+//! Times engines side by side in one process: in each round every engine does the same work once, in turn, each round
+//! beginning with the next engine. Times are medians over the rounds, ratios the medians of the rounds' ratios. Prints
+//! markdown tables. `bench [rounds]`.
 #![deny(warnings)]
 #![forbid(unsafe_code)]
 
@@ -10,16 +12,20 @@ use differ::{Engine, Second};
 use std::hint::black_box;
 use std::time::{Duration, Instant};
 
-/// One piece of work: what each engine gets afresh, and how often it is done in a round.
+/// One piece of work. `times` times each list is given to one call; the time is that of one call.
 struct Work {
     name: String,
     program: Vec<u8>,
-    network: Vec<i32>,
-    list: Vec<u8>,
+    lists: Vec<Vec<u8>>,
     call: Call,
     times: usize,
+    /// What the calls must return.
+    number: u32,
+    /// How many events one call does.
+    events: usize,
 }
 
+#[derive(Clone, Copy)]
 enum Call {
     Check,
     Fresh,
@@ -27,20 +33,36 @@ enum Call {
     Run,
 }
 
+/// What a work's calls returned and left.
+#[derive(PartialEq)]
+struct Left {
+    returned: Vec<(u32, usize)>,
+    network: Vec<i32>,
+    space: Vec<i32>,
+}
+
 impl Work {
-    fn time(&self, engine: &dyn Engine) -> Duration {
-        let mut network = self.network.clone();
-        let mut answers = vec![0; 2 * self.list.len() / 4 + 2];
+    fn call(&self, engine: &dyn Engine, network: &mut [i32], list: &[u8], space: &mut [i32]) -> (u32, usize) {
+        match self.call {
+            Call::Check => engine.check(&self.program),
+            Call::Fresh => engine.fresh(network),
+            Call::Event => engine.event(&self.program, network, list, space),
+            Call::Run => engine.run(&self.program, network, list, space),
+        }
+    }
+
+    fn time(&self, engine: &dyn Engine) -> (Duration, Left) {
+        let mut network = network::fresh();
+        let mut space = vec![0; 2 * self.events];
+        let mut returned = vec![(0, 0); self.lists.len()];
         let start = Instant::now();
         for _ in 0..self.times {
-            black_box(match self.call {
-                Call::Check => engine.check(&self.program),
-                Call::Fresh => engine.fresh(&mut network),
-                Call::Event => engine.event(&self.program, &mut network, &self.list, &mut answers),
-                Call::Run => engine.run(&self.program, &mut network, &self.list, &mut answers),
-            });
+            for (list, returned) in self.lists.iter().zip(&mut returned) {
+                *returned = black_box(self.call(engine, &mut network, black_box(list), &mut space));
+            }
         }
-        start.elapsed() / self.times as u32
+        let calls = self.times * self.lists.len();
+        (start.elapsed() / calls as u32, Left { returned, network, space })
     }
 }
 
@@ -49,7 +71,7 @@ fn table(draft: &Draft) -> Vec<u8> {
 }
 
 /// Sixteen devices in a square, linked to their neighbours, device 1 lit: every device fires and is heard, in turn.
-fn grid(count: usize) -> Vec<u8> {
+fn grid(count: usize) -> Vec<Vec<u8>> {
     let near = |a: u8| -> Vec<u8> {
         let (row, column) = ((a - 1) / 4, (a - 1) % 4);
         (1..=16).filter(|b| (row.abs_diff((b - 1) / 4) + column.abs_diff((b - 1) % 4)) == 1).collect()
@@ -65,105 +87,196 @@ fn grid(count: usize) -> Vec<u8> {
         }
     }
     list.truncate(count);
-    list.concat()
+    list
 }
 
-/// A program of 200 nodes that calculates.
+/// A program of 200 nodes that calculates: operators in a chain, with constants.
 fn arithmetic() -> Vec<u8> {
     let mut main = Tree::new(4, &[], vec![Tree::constant(1)]);
     let mut o = 0;
-    while main.size() < 199 {
+    while main.size() < 200 {
         main = Tree::new(3, &[o % 3], vec![main, Tree::constant(i32::from(o) + 1)]);
         o = (o + 1) % 9;
     }
+    assert_eq!(main.size(), 200);
     table(&Draft { definitions: vec![], main, orphans: vec![] })
 }
 
-fn works() -> Vec<Work> {
-    let distance_to = table(&grow::distance_to([1, 2], 0));
+/// Nine in ten are refused: 14, 15 or 16.
+fn mostly_refused(count: usize) -> Vec<Vec<u8>> {
     let random = &mut Random::new(3, 3);
+    let event = |at: usize| match at % 10 {
+        0 => events::fire(1),
+        1..=4 => events::deliver(1 + random.below(16) as u8, 17),
+        5..=7 => events::deliver(1, 2),
+        _ => events::link(3, 3, 5),
+    };
+    (0..count).map(event).collect()
+}
+
+/// The works of the first table, and the runs whose growth is shown.
+fn works() -> (Vec<Work>, Vec<Work>) {
+    let distance_to = &table(&grow::distance_to([1, 2], 0));
     let mut full =
         grow::accepted(Shape { nodes: 256, definitions: 8, cost: 4_000, spare: 0, deep: 20 }, &mut Random::new(8, 8));
     grow::pad(&mut full, 256);
+    assert_eq!(full.size(), 256);
     let tower = Draft { definitions: grow::tower(32), main: Tree::new(12, &[31], vec![]), orphans: vec![] };
     let dear = Draft { definitions: grow::tower(19), main: grow::spend(19, 1_000_000), orphans: vec![] };
-    let refused: Vec<Vec<u8>> = (0..20_000)
-        .map(|at| match at % 10 {
-            0 => events::fire(1),
-            1..=4 => events::deliver(1 + random.below(16) as u8, 17),
-            5..=7 => events::deliver(1, 2),
-            _ => events::link(3, 3, 5),
-        })
-        .collect();
-    let work = |name: &str, program: &[u8], list: Vec<u8>, call: Call, times: usize| Work {
+    let run = |name: &str, program: &[u8], list: Vec<Vec<u8>>, times: usize| Work {
         name: name.into(),
         program: program.to_vec(),
-        network: network::fresh(),
-        list,
-        call,
+        events: list.len(),
+        lists: vec![list.concat()],
+        call: Call::Run,
         times,
+        number: 0,
     };
-    let mut works = vec![
-        work("run of 20,000 events, distance-to, grid of 16", &distance_to, grid(20_000), Call::Run, 1),
-        work("run of 20,000 events, 200 nodes of arithmetic", &arithmetic(), grid(20_000), Call::Run, 1),
-        work("one fire that costs 1,000,000", &table(&dear), events::fire(1), Call::Event, 1),
-        work("one event: fire, distance-to", &distance_to, events::fire(1), Call::Event, 100),
-        work("one event: signal", &distance_to, events::signal(1, 1, 1), Call::Event, 100),
-        work("check of 256 nodes", &table(&full), vec![], Call::Check, 100),
-        work("check of a tower, refused with 10", &table(&tower), vec![], Call::Check, 100),
-        work("fresh", &[], vec![], Call::Fresh, 100),
-        work("run of 20,000 events, nine in ten refused", &distance_to, refused.concat(), Call::Run, 1),
+    let event = |name: &str, program: &[u8], lists: Vec<Vec<u8>>, times: usize| Work {
+        name: name.into(),
+        program: program.to_vec(),
+        events: 1,
+        lists,
+        call: Call::Event,
+        times,
+        number: 0,
+    };
+    let check = |name: &str, draft: &Draft, number: u32| Work {
+        name: name.into(),
+        program: table(draft),
+        events: 0,
+        lists: vec![vec![]],
+        call: Call::Check,
+        times: 100,
+        number,
+    };
+    let mut all = vec![
+        run("run of 20,000 events: distance-to, a grid of 16 devices", distance_to, grid(20_000), 1),
+        run("the same with 200 nodes of arithmetic", &arithmetic(), grid(20_000), 1),
+        event("one fire of a program that costs 1,000,000", &table(&dear), vec![events::fire(1)], 1),
+        event("one event, distance-to: fire", distance_to, vec![events::fire(1)], 200),
+        event("one event: signal", distance_to, vec![events::signal(1, 1, 1)], 200),
+        event("one event: link", distance_to, vec![events::link(1, 2, 10)], 200),
     ];
-    for count in [1_000, 10_000, 100_000] {
-        works.push(work(&format!("growth: run of {count} events"), &distance_to, grid(count), Call::Run, 1));
+    for (name, end) in [("deliver", events::deliver(1, 2)), ("lose", events::lose(1, 2))] {
+        let lists = vec![events::link(1, 2, 10), events::fire(1), end];
+        all.push(event(&format!("one event, in turn link, fire, {name}: each"), distance_to, lists, 70));
     }
-    works
+    all.push(check("check of 256 nodes", &full, 0));
+    all.push(check("check of a tower of 32 definitions, refused with 10", &tower, 10));
+    all.push(Work { call: Call::Fresh, ..check("fresh", &tower, 0) });
+    all.push(run("run of 20,000 events, nine in ten refused (14, 15, 16)", distance_to, mostly_refused(20_000), 1));
+    let growth = [(0, 200), (1_000, 10), (10_000, 1), (100_000, 1)]
+        .map(|(count, times)| run(&format!("{count}"), distance_to, grid(count), times));
+    (all, growth.into())
 }
 
-fn median(times: &mut [Duration]) -> Duration {
-    times.sort();
-    times[times.len() / 2]
+fn median(mut numbers: Vec<f64>) -> f64 {
+    numbers.sort_by(f64::total_cmp);
+    numbers[numbers.len() / 2]
 }
 
-fn micros(time: Duration) -> f64 {
-    time.as_nanos() as f64 / 1_000.0
+/// What one engine took, in nanoseconds.
+struct Time {
+    median: f64,
+    least: f64,
+}
+
+/// The time of each engine, and for two the ratio; they must do the same.
+fn measure(engines: &[&dyn Engine], work: &Work, rounds: usize) -> (Vec<Time>, Option<f64>) {
+    let mut times = vec![vec![]; engines.len()];
+    for round in 0..rounds {
+        let mut before: Option<Left> = None;
+        for turn in 0..engines.len() {
+            let which = (round + turn) % engines.len();
+            let (time, left) = work.time(engines[which]);
+            times[which].push(time.as_nanos() as f64);
+            assert!(left.returned.iter().all(|(number, _)| *number == work.number), "{}", work.name);
+            assert!(before.is_none_or(|before| before == left), "the engines differ: {}", work.name);
+            before = Some(left);
+        }
+    }
+    let ratio = match &times[..] {
+        [one, other] => Some(median(one.iter().zip(other).map(|(one, other)| one / other).collect())),
+        _ => None,
+    };
+    let time = |times: Vec<f64>| Time { least: times.iter().copied().fold(f64::MAX, f64::min), median: median(times) };
+    (times.into_iter().map(time).collect(), ratio)
+}
+
+/// A time in words, three digits of it.
+fn words(nanos: f64) -> String {
+    let (number, unit) = match nanos {
+        n if n < 1e3 => (n, "ns"),
+        n if n < 1e6 => (n / 1e3, "µs"),
+        n => (n / 1e6, "ms"),
+    };
+    let digits = if number < 10.0 { 2 } else { usize::from(number < 100.0) };
+    format!("{number:.digits$} {unit}")
+}
+
+/// A row; each call did that many events, or 1.
+fn row(name: &str, (times, ratio): (Vec<Time>, Option<f64>), events: usize) {
+    let each = |time: f64| words(time / events as f64);
+    let each: Vec<String> =
+        times.iter().map(|time| format!("{} (least {})", each(time.median), each(time.least))).collect();
+    let ratio = ratio.map_or(String::new(), |ratio| format!(" {ratio:.2} |"));
+    println!("| {name} | {} |{ratio}", each.join(" | "));
+}
+
+fn head(first: &str, engines: &[&dyn Engine]) {
+    let names: Vec<String> = engines.iter().map(|engine| engine.name()).collect();
+    let ratio = if engines.len() == 2 { " ratio |" } else { "" };
+    println!("\n| {first} | {} |{ratio}", names.join(" | "));
+    println!("|---|{}", "---:|".repeat(engines.len() + usize::from(engines.len() == 2)));
+}
+
+/// What reading, or copying, a network takes, for comparison.
+fn machine(rounds: usize) {
+    let cells = network::fresh();
+    let mut copy = cells.clone();
+    let time = |work: &mut dyn FnMut()| {
+        let start = Instant::now();
+        (0..1_000).for_each(|_| work());
+        start.elapsed().as_nanos() as f64 / 1e3
+    };
+    let mut read = || {
+        black_box(black_box(&cells).iter().fold(0, |all, cell| all ^ cell));
+    };
+    let reading = median((0..rounds).map(|_| time(&mut read)).collect());
+    let mut write = || black_box(&mut copy).copy_from_slice(black_box(&cells));
+    let copying = median((0..rounds).map(|_| time(&mut write)).collect());
+    println!("Reading 8,464 cells takes this machine {}, copying them {}.", words(reading), words(copying));
+}
+
+/// The machine's load, where it can be read.
+fn load() -> String {
+    let text = std::fs::read_to_string("/proc/loadavg").unwrap_or_default();
+    text.split(' ').next().map_or("unknown".into(), String::from)
 }
 
 fn main() {
-    let rounds = std::env::args().nth(1).and_then(|word| word.parse().ok()).unwrap_or(9);
+    let rounds = std::env::args().nth(1).and_then(|word| word.parse().ok()).unwrap_or(15).max(1);
     #[cfg(feature = "proved")]
     let engines: &[&dyn Engine] = &[&differ::Proved, &Second];
     #[cfg(not(feature = "proved"))]
     let engines: &[&dyn Engine] = &[&Second];
-    println!("{rounds} rounds; microseconds, medians");
-    for work in works() {
-        let mut times = vec![vec![]; engines.len()];
-        for _ in 0..rounds {
-            for (engine, times) in engines.iter().zip(&mut times) {
-                times.push(work.time(*engine));
-            }
-        }
-        let medians: Vec<Duration> = times.iter_mut().map(|times| median(times)).collect();
-        let each: Vec<String> = engines
-            .iter()
-            .zip(&medians)
-            .map(|(engine, time)| format!("{} {:.1}", engine.name(), micros(*time)))
-            .collect();
-        let ratio = micros(medians[0]) / micros(medians[medians.len() - 1]);
-        println!("{:<50} {}  ratio {ratio:.3}", work.name, each.join("  "));
+    let cores = std::thread::available_parallelism().map_or(0, usize::from);
+    let before = load();
+    let (works, growth) = works();
+    println!(
+        "Medians of {rounds} rounds, engines in turn in one process; the ratio is the median of the rounds' ratios."
+    );
+    head("work", engines);
+    for work in &works {
+        row(&work.name, measure(engines, work, rounds), 1);
     }
-    // What reading and copying a network takes, for comparison.
-    let cells = network::fresh();
-    let mut copy = cells.clone();
-    let mut times: Vec<Duration> = vec![];
-    for _ in 0..rounds {
-        let start = Instant::now();
-        for _ in 0..100 {
-            black_box(cells.iter().map(|cell| i64::from(*cell)).sum::<i64>());
-            copy.copy_from_slice(black_box(&cells));
-            black_box(&mut copy);
-        }
-        times.push(start.elapsed() / 100);
+    head("distance-to, a run of so many events: time an event", engines);
+    for work in &growth {
+        let name = if work.events == 0 { "0 (the whole call)" } else { &work.name };
+        row(name, measure(engines, work, rounds), work.events.max(1));
     }
-    println!("{:<50} {:.1}", "reading and copying 8,464 cells", micros(median(&mut times)));
+    println!();
+    machine(rounds);
+    println!("{cores} cores; load {before} before, {} after (1 is this program).", load());
 }

@@ -1,23 +1,48 @@
 //! The proved Proto round engine of document 01 ("01"), called safely from Rust.
 //!
-//! The engine is the static library `libcuddystove.a`. A call that 01 refuses gives a [`Refusal`] with 01's number
-//! and place, a name, and a sentence for people; it then changed no buffer.
-#![deny(warnings)]
+//! The engine is the static library `libcuddystove.a`; `include/cuddystove.h` describes the cells of a network and the
+//! bytes of programs and events. Slices go in; a call that 01 refuses gives a [`Refusal`] with 01's number and place, a
+//! name, and a sentence for people, and has then changed no buffer. No call has a condition on what its slices hold,
+//! none panics, and none uses the heap. What a call may write is lent as `&mut`, so nothing else can overlap it.
+//!
+//! ```
+//! use cuddystove::{answers, check, fresh, run, Answer, CELLS};
+//!
+//! // 01's program (i): (rep x 0 (+ x 1)).
+//! let program = [
+//!     1, 0, 5, 0, 0, 0, 0, 0, 1, 0, 2, 2, 0, 1, 0, 5, 0, 0, 0, 0, 1, 1, 0, 4, 3, 0, 1, 2, 1, 0, 4, 5, 0, 0, 3, 3, 0, 1, 4,
+//! ];
+//! check(&program)?;
+//! let mut network = vec![0; CELLS];
+//! fresh(&mut network)?;
+//! let mut space = [0; 4];
+//! run(&program, &mut network, &[0x10, 0, 1, 1, 0x10, 0, 1, 1], &mut space)?; // device 1 fires twice
+//! assert_eq!(answers(&space).collect::<Vec<_>>(), [Some(Answer::Done(0)), Some(Answer::Done(1))]);
+//! # Ok::<(), cuddystove::Refusal>(())
+//! ```
+#![deny(warnings, missing_docs)]
 
 use std::fmt;
 
 /// Cells of a network.
 pub const CELLS: usize = 8_464;
+/// Cells of one device's block.
+pub const BLOCK: usize = 529;
 /// The mark for an absent number.
 pub const ABSENT: i32 = i32::MIN;
+/// The largest number.
 pub const INF: i32 = i32::MAX;
+/// The smallest number.
 pub const FLOOR: i32 = -INF;
 
 /// A call that was refused as a whole, 01's numbers 1 to 13.
 #[derive(Clone, Debug, PartialEq, Eq)]
 pub struct Refusal {
+    /// 01's number.
     pub number: u32,
+    /// A short name for the number.
     pub name: &'static str,
+    /// 01's place: a field of the program, a node, a cell or an event, all counted from 0; else 0.
     pub place: usize,
 }
 
@@ -46,7 +71,9 @@ impl Refusal {
     pub fn sentence(&self) -> String {
         let place = self.place;
         match self.number {
-            1 => format!("Field {place} of the program is cut short, of unknown tag or of the wrong length."),
+            1 => format!(
+                "Field {place} of the program is cut short, of unknown tag, of the wrong length or without a kind byte."
+            ),
             2 => format!("Field {place} of the program is the 257th node or the 33rd definition."),
             3 => format!("Field {place} of the program has an unknown kind, or a byte or constant out of its range."),
             4 => format!("Field {place} of the program names a node or definition that is not yet given."),
@@ -58,9 +85,9 @@ impl Refusal {
             ),
             9 => format!("Node {place} calls a spatial definition a second time, or folds by one that may not fold."),
             10 => "A round of the program costs more than 1,000,000.".into(),
-            11 if place == 0 => format!("The network is not {CELLS} cells long."),
+            11 if place == 0 => "The network is not 8,464 cells long.".into(),
             11 => {
-                let (device, cell) = (place / 529 + 1, place % 529);
+                let (device, cell) = (place / BLOCK + 1, place % BLOCK);
                 format!("Cell {place} of the network is unsound (device {device}, cell {cell} of its block).")
             }
             12 => format!(
@@ -107,6 +134,34 @@ impl Answer {
             _ => return None,
         })
     }
+
+    /// 01's number: 0, or 14 to 17.
+    pub fn number(self) -> u32 {
+        match self {
+            Answer::Done(_) => 0,
+            Answer::OutOfRange => 14,
+            Answer::Itself => 15,
+            Answer::NothingPending => 16,
+            Answer::DividedByZero(_) => 17,
+        }
+    }
+
+    /// What came of the event, in a sentence for people.
+    pub fn sentence(self) -> String {
+        match self {
+            Answer::Done(INF) => "Done; the value is inf.".into(),
+            Answer::Done(value) => format!("Done; the value is {value}."),
+            Answer::OutOfRange => "A device, sensor, switch or distance of the event is out of range.".into(),
+            Answer::Itself => "The event goes from a device to itself.".into(),
+            Answer::NothingPending => "No message is pending to be delivered or lost.".into(),
+            Answer::DividedByZero(node) => format!("Node {node} divided by 0; the fire changed nothing."),
+        }
+    }
+}
+
+/// The answers in a space that a call has filled, two numbers each; a last single number is left out.
+pub fn answers(space: &[i32]) -> impl Iterator<Item = Option<Answer>> + '_ {
+    space.chunks_exact(2).map(|pair| Answer::from_pair([pair[0], pair[1]]))
 }
 
 fn result((number, place): (u32, usize)) -> Result<(), Refusal> {
@@ -116,74 +171,115 @@ fn result((number, place): (u32, usize)) -> Result<(), Refusal> {
     }
 }
 
-/// Checks a program.
+/// Checks a program; refused with 1 to 10.
 pub fn check(program: &[u8]) -> Result<(), Refusal> {
     result(plain::check(program))
 }
 
-/// Makes a network fresh.
+/// Makes a network fresh; refused with 11 where it is not [`CELLS`] long.
 pub fn fresh(network: &mut [i32]) -> Result<(), Refusal> {
     result(plain::fresh(network))
 }
 
-/// Does the one event of `list`; its answer is the first pair of `answers`.
-pub fn event(program: &[u8], network: &mut [i32], list: &[u8], answers: &mut [i32]) -> Result<(), Refusal> {
-    result(plain::event(program, network, list, answers))
+/// Does the one event of `list`; its answer is the first pair of `space`. Refused with 1 to 13.
+pub fn event(program: &[u8], network: &mut [i32], list: &[u8], space: &mut [i32]) -> Result<(), Refusal> {
+    result(plain::event(program, network, list, space))
 }
 
-/// Does the events of `list` from first to last; each leaves a pair in `answers`.
-pub fn run(program: &[u8], network: &mut [i32], list: &[u8], answers: &mut [i32]) -> Result<(), Refusal> {
-    result(plain::run(program, network, list, answers))
+/// Does the events of `list` from first to last; each leaves a pair in `space`. Refused with 1 to 13.
+pub fn run(program: &[u8], network: &mut [i32], list: &[u8], space: &mut [i32]) -> Result<(), Refusal> {
+    result(plain::run(program, network, list, space))
 }
 
-/// The four calls with 01's number and place as they are.
+/// Runs two lists, each on a network and an answer space of its own; each run is refused by itself.
+///
+/// If the networks were equal and the lists are orders of the same events in which clashing events keep their order,
+/// and neither run is refused, then the networks end equal and the k-th copy of each event has the same answer in both
+/// (01, demand 3; proved of this call).
+pub fn run_both(
+    program: &[u8],
+    networks: [&mut [i32]; 2],
+    lists: [&[u8]; 2],
+    spaces: [&mut [i32]; 2],
+) -> [Result<(), Refusal>; 2] {
+    plain::run_both(program, networks, lists, spaces).map(result)
+}
+
+/// The calls with 01's number and place as they are.
 pub mod plain {
     #[repr(C)]
-    struct Returned {
+    struct Verdict {
         number: u32,
         place: usize,
     }
 
-    extern "C" {
-        fn cuddystove_check(program: *const u8, program_len: usize) -> Returned;
-        fn cuddystove_fresh(network: *mut i32, network_len: usize) -> Returned;
-        fn cuddystove_event(
-            program: *const u8,
-            program_len: usize,
-            network: *mut i32,
-            network_len: usize,
-            list: *const u8,
-            list_len: usize,
-            answers: *mut i32,
-            answers_len: usize,
-        ) -> Returned;
-        fn cuddystove_run(
-            program: *const u8,
-            program_len: usize,
-            network: *mut i32,
-            network_len: usize,
-            list: *const u8,
-            list_len: usize,
-            answers: *mut i32,
-            answers_len: usize,
-        ) -> Returned;
+    #[repr(C)]
+    struct Verdicts {
+        number1: u32,
+        place1: usize,
+        number2: u32,
+        place2: usize,
     }
 
-    fn pair(returned: Returned) -> (u32, usize) {
+    extern "C" {
+        fn cuddystove_check(program: *const u8, program_length: usize) -> Verdict;
+        fn cuddystove_fresh(network: *mut i32, network_length: usize) -> Verdict;
+        fn cuddystove_event(
+            program: *const u8,
+            program_length: usize,
+            network: *mut i32,
+            network_length: usize,
+            list: *const u8,
+            list_length: usize,
+            space: *mut i32,
+            space_length: usize,
+        ) -> Verdict;
+        fn cuddystove_run(
+            program: *const u8,
+            program_length: usize,
+            network: *mut i32,
+            network_length: usize,
+            list: *const u8,
+            list_length: usize,
+            space: *mut i32,
+            space_length: usize,
+        ) -> Verdict;
+        fn cuddystove_run_both(
+            program: *const u8,
+            program_length: usize,
+            network1: *mut i32,
+            network1_length: usize,
+            network2: *mut i32,
+            network2_length: usize,
+            list1: *const u8,
+            list1_length: usize,
+            list2: *const u8,
+            list2_length: usize,
+            space1: *mut i32,
+            space1_length: usize,
+            space2: *mut i32,
+            space2_length: usize,
+        ) -> Verdicts;
+    }
+
+    fn pair(returned: Verdict) -> (u32, usize) {
         (returned.number, returned.place)
     }
 
+    /// [`check`](crate::check).
     pub fn check(program: &[u8]) -> (u32, usize) {
         // SAFETY: pointer and length are those of one slice, read during the call only.
         pair(unsafe { cuddystove_check(program.as_ptr(), program.len()) })
     }
 
+    /// [`fresh`](crate::fresh).
     pub fn fresh(network: &mut [i32]) -> (u32, usize) {
         // SAFETY: pointer and length are those of one slice, lent to nobody else.
         pair(unsafe { cuddystove_fresh(network.as_mut_ptr(), network.len()) })
     }
 
-    pub fn event(program: &[u8], network: &mut [i32], list: &[u8], answers: &mut [i32]) -> (u32, usize) {
+    /// [`event`](crate::event).
+    pub fn event(program: &[u8], network: &mut [i32], list: &[u8], space: &mut [i32]) -> (u32, usize) {
         // SAFETY: each pointer and length are those of one slice; the two that are written are lent to nobody else.
         pair(unsafe {
             cuddystove_event(
@@ -193,13 +289,14 @@ pub mod plain {
                 network.len(),
                 list.as_ptr(),
                 list.len(),
-                answers.as_mut_ptr(),
-                answers.len(),
+                space.as_mut_ptr(),
+                space.len(),
             )
         })
     }
 
-    pub fn run(program: &[u8], network: &mut [i32], list: &[u8], answers: &mut [i32]) -> (u32, usize) {
+    /// [`run`](crate::run).
+    pub fn run(program: &[u8], network: &mut [i32], list: &[u8], space: &mut [i32]) -> (u32, usize) {
         // SAFETY: each pointer and length are those of one slice; the two that are written are lent to nobody else.
         pair(unsafe {
             cuddystove_run(
@@ -209,9 +306,38 @@ pub mod plain {
                 network.len(),
                 list.as_ptr(),
                 list.len(),
-                answers.as_mut_ptr(),
-                answers.len(),
+                space.as_mut_ptr(),
+                space.len(),
             )
         })
+    }
+
+    /// [`run_both`](crate::run_both).
+    pub fn run_both(
+        program: &[u8],
+        [network1, network2]: [&mut [i32]; 2],
+        [list1, list2]: [&[u8]; 2],
+        [space1, space2]: [&mut [i32]; 2],
+    ) -> [(u32, usize); 2] {
+        // SAFETY: each pointer and length are those of one slice; the four that are written are lent to nobody else.
+        let returned = unsafe {
+            cuddystove_run_both(
+                program.as_ptr(),
+                program.len(),
+                network1.as_mut_ptr(),
+                network1.len(),
+                network2.as_mut_ptr(),
+                network2.len(),
+                list1.as_ptr(),
+                list1.len(),
+                list2.as_ptr(),
+                list2.len(),
+                space1.as_mut_ptr(),
+                space1.len(),
+                space2.as_mut_ptr(),
+                space2.len(),
+            )
+        };
+        [(returned.number1, returned.place1), (returned.number2, returned.place2)]
     }
 }

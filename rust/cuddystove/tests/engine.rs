@@ -1,27 +1,114 @@
-//! The wrapper with the library behind it: 01's replay example, and refusals in words.
+//! The wrapper with the library behind it: each call, accepted and refused, and refusals in words.
 
-use cuddystove::{check, event, fresh, run, Answer, CELLS};
+use cuddystove::{answers, check, event, fresh, run, run_both, Answer, Refusal, ABSENT, BLOCK, CELLS, INF};
 
 /// 01's program (i): (rep x 0 (+ x 1)).
 const COUNTER: [u8; 39] = [
     0x01, 0, 5, 0, 0, 0, 0, 0, 0x01, 0, 2, 2, 0, 0x01, 0, 5, 0, 0, 0, 0, 1, 0x01, 0, 4, 3, 0, 1, 2, 0x01, 0, 4, 5, 0,
     0, 3, 0x03, 0, 1, 4,
 ];
+/// (/ 1 0)
+const DIVIDES: [u8; 27] = [0x01, 0, 5, 0, 0, 0, 0, 1, 0x01, 0, 5, 0, 0, 0, 0, 0, 0x01, 0, 4, 3, 3, 0, 1, 0x03, 0, 1, 2];
 
-#[test]
-fn replay_example() {
-    assert_eq!(check(&COUNTER), Ok(()));
+fn fresh_network() -> Vec<i32> {
     let mut network = vec![7; CELLS];
     assert_eq!(fresh(&mut network), Ok(()));
+    network
+}
+
+fn number_and_place(result: Result<(), Refusal>) -> (u32, usize) {
+    result.map_or_else(|refusal| (refusal.number, refusal.place), |()| (0, 0))
+}
+
+fn all(space: &[i32]) -> Vec<Answer> {
+    answers(space).map(|answer| answer.expect("the engine writes no other")).collect()
+}
+
+#[test]
+fn check_accepts_and_refuses() {
+    assert_eq!(check(&COUNTER), Ok(()));
+    assert_eq!(number_and_place(check(&[])), (6, 0));
+    assert_eq!(number_and_place(check(&[1, 0, 1, 13])), (3, 0));
+    for cut in 1..COUNTER.len() {
+        assert!(check(&COUNTER[..cut]).is_err(), "cut after {cut}");
+    }
+}
+
+#[test]
+fn fresh_sets_every_cell() {
+    let network = fresh_network();
+    for (cell, number) in network.iter().enumerate() {
+        let zero = match cell % BLOCK {
+            16 => true,
+            within => within >= 273 && (within - 273) % 16 == 0,
+        };
+        assert_eq!(*number, if zero { 0 } else { ABSENT }, "cell {cell}");
+    }
+    for length in [0, 1, CELLS - 1, CELLS + 1] {
+        let mut network = vec![7; length];
+        assert_eq!(number_and_place(fresh(&mut network)), (11, 0));
+        assert!(network.iter().all(|number| *number == 7));
+    }
+}
+
+#[test]
+fn event_does_one() {
+    let mut network = fresh_network();
+    let mut space = [5; 3];
+    for value in 0..3 {
+        assert_eq!(event(&COUNTER, &mut network, &[0x10, 0, 1, 2], &mut space), Ok(()));
+        assert_eq!(space, [0, value, 5]);
+        assert_eq!(network[BLOCK], value);
+    }
+    let before = network.clone();
+    let mut one = |list: &[u8], space: &mut [i32]| number_and_place(event(&COUNTER, &mut network, list, space));
+    assert_eq!(one(&[], &mut space), (12, 0));
+    assert_eq!(one(&[0x10, 0, 1, 1, 0x10, 0, 1, 1], &mut space), (12, 1));
+    assert_eq!(one(&[0x10, 0, 1, 1], &mut []), (13, 0));
+    assert_eq!(one(&[0x10, 0, 1, 17], &mut space), (0, 0));
+    assert_eq!(all(&space), [Answer::OutOfRange]);
+    assert_eq!(event(&DIVIDES, &mut network, &[0x10, 0, 1, 1], &mut space), Ok(()));
+    assert_eq!(all(&space), [Answer::DividedByZero(2)]);
+    assert_eq!(network, before);
+}
+
+/// 01's replay example.
+#[test]
+fn run_does_all() {
+    let mut network = fresh_network();
     let list = [0x10, 0, 1, 1, 0x11, 0, 2, 1, 1, 0x10, 0, 1, 1, 0x11, 0, 2, 1, 2];
-    let mut answers = [5; 8];
-    assert_eq!(run(&COUNTER, &mut network, &list, &mut answers), Ok(()));
-    let answers: Vec<Option<Answer>> = answers.chunks(2).map(|pair| Answer::from_pair([pair[0], pair[1]])).collect();
-    let expected = [Answer::Done(0), Answer::Itself, Answer::Done(1), Answer::NothingPending];
-    assert_eq!(answers, expected.map(Some));
-    let mut answer = [0; 2];
-    assert_eq!(event(&COUNTER, &mut network, &[0x10, 0, 1, 1], &mut answer), Ok(()));
-    assert_eq!(Answer::from_pair(answer), Some(Answer::Done(2)));
+    let mut space = [5; 9];
+    assert_eq!(run(&COUNTER, &mut network, &list, &mut space), Ok(()));
+    assert_eq!(all(&space), [Answer::Done(0), Answer::Itself, Answer::Done(1), Answer::NothingPending]);
+    assert_eq!(space[8], 5);
+    assert_eq!(run(&COUNTER, &mut network, &[], &mut []), Ok(()));
+    assert_eq!(number_and_place(run(&COUNTER, &mut network, &list[..17], &mut space)), (12, 3));
+    assert_eq!(number_and_place(run(&COUNTER, &mut network, &list, &mut space[..7])), (13, 0));
+    network[BLOCK + 16] = 65_536;
+    assert_eq!(number_and_place(run(&COUNTER, &mut network, &list, &mut space)), (11, BLOCK + 16));
+    assert_eq!(number_and_place(run(&COUNTER[1..], &mut network, &list, &mut space)), (1, 0));
+}
+
+/// Two orders of one shift end alike; each run is refused by itself.
+#[test]
+fn run_both_runs_each() {
+    let (mut one, mut two) = (fresh_network(), fresh_network());
+    let first = [0x10, 0, 1, 1, 0x10, 0, 1, 2, 0x10, 0, 1, 1];
+    let second = [0x10, 0, 1, 1, 0x10, 0, 1, 1, 0x10, 0, 1, 2];
+    let (mut space1, mut space2) = ([5; 6], [5; 7]);
+    let both = run_both(&COUNTER, [&mut one, &mut two], [&first, &second], [&mut space1, &mut space2]);
+    assert_eq!(both, [Ok(()), Ok(())]);
+    assert_eq!(one, two);
+    assert_eq!((one[0], one[BLOCK]), (1, 0));
+    assert_eq!(space1, [0, 0, 0, 0, 0, 1]);
+    assert_eq!(space2, [0, 0, 0, 1, 0, 0, 5]);
+    let before = two.clone();
+    let both = run_both(&COUNTER, [&mut one, &mut two], [&first, &second[..5]], [&mut space1, &mut space2]);
+    assert_eq!(both.map(number_and_place), [(0, 0), (12, 1)]);
+    assert_eq!((one[0], &two), (3, &before));
+    let both = run_both(&COUNTER, [&mut one[1..], &mut two], [&first, &second], [&mut space1, &mut space2[..5]]);
+    assert_eq!(both.map(number_and_place), [(11, 0), (13, 0)]);
+    assert_eq!(two, before);
 }
 
 #[test]
@@ -30,8 +117,25 @@ fn refusals_in_words() {
     assert_eq!((refusal.number, refusal.name, refusal.place), (1, "bad field", 5));
     assert_eq!(
         refusal.to_string(),
-        "refused 1 5 (bad field): Field 5 of the program is cut short, of unknown tag or of the wrong length."
+        "refused 1 5 (bad field): Field 5 of the program is cut short, of unknown tag, of the wrong length or without a kind byte."
     );
     let refusal = fresh(&mut [0; 3]).expect_err("too short");
-    assert_eq!(refusal.sentence(), "The network is not 8464 cells long.");
+    assert_eq!(refusal.sentence(), "The network is not 8,464 cells long.");
+    let mut network = fresh_network();
+    network[2 * BLOCK + 273 + 16 * 4] = 2;
+    let refusal = run(&COUNTER, &mut network, &[], &mut []).expect_err("unsound");
+    assert_eq!(refusal.sentence(), "Cell 1395 of the network is unsound (device 3, cell 337 of its block).");
+}
+
+#[test]
+fn answers_in_words() {
+    let pairs = [0, 4, 14, 0, 15, 0, 16, 0, 17, 3, 18, 0];
+    let read: Vec<Option<Answer>> = answers(&pairs).collect();
+    let expected =
+        [Answer::Done(4), Answer::OutOfRange, Answer::Itself, Answer::NothingPending, Answer::DividedByZero(3)];
+    assert_eq!(read[..5], expected.map(Some));
+    assert_eq!(read[5], None);
+    assert_eq!(expected.map(Answer::number), [0, 14, 15, 16, 17]);
+    assert_eq!(Answer::Done(INF).sentence(), "Done; the value is inf.");
+    assert_eq!(Answer::DividedByZero(3).sentence(), "Node 3 divided by 0; the fire changed nothing.");
 }

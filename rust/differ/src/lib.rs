@@ -9,6 +9,9 @@ use mutants::Mutant;
 use std::collections::BTreeMap;
 use std::panic::{catch_unwind, AssertUnwindSafe};
 
+/// A number and a place.
+pub type Returned = (u32, usize);
+
 /// An engine: 01's four calls, each returning a number and a place.
 pub trait Engine {
     fn name(&self) -> String;
@@ -16,6 +19,21 @@ pub trait Engine {
     fn fresh(&self, network: &mut [i32]) -> (u32, usize);
     fn event(&self, program: &[u8], network: &mut [i32], list: &[u8], answers: &mut [i32]) -> (u32, usize);
     fn run(&self, program: &[u8], network: &mut [i32], list: &[u8], answers: &mut [i32]) -> (u32, usize);
+    /// The engine's call for two runs, if it has one.
+    fn both(&self) -> Option<&dyn Both> {
+        None
+    }
+}
+
+/// Two runs in one call.
+pub trait Both {
+    fn run_both(
+        &self,
+        program: &[u8],
+        networks: [&mut [i32]; 2],
+        lists: [&[u8]; 2],
+        answers: [&mut [i32]; 2],
+    ) -> [Returned; 2];
 }
 
 /// The second engine.
@@ -78,6 +96,22 @@ impl Engine for Proved {
     fn run(&self, program: &[u8], network: &mut [i32], list: &[u8], answers: &mut [i32]) -> (u32, usize) {
         cuddystove::plain::run(program, network, list, answers)
     }
+    fn both(&self) -> Option<&dyn Both> {
+        Some(self)
+    }
+}
+
+#[cfg(feature = "proved")]
+impl Both for Proved {
+    fn run_both(
+        &self,
+        program: &[u8],
+        networks: [&mut [i32]; 2],
+        lists: [&[u8]; 2],
+        answers: [&mut [i32]; 2],
+    ) -> [Returned; 2] {
+        cuddystove::plain::run_both(program, networks, lists, answers)
+    }
 }
 
 /// What a call returned and left.
@@ -132,6 +166,31 @@ fn perform(engine: &dyn Engine, case: &Case, list: &[u8]) -> Result<Outcome, Str
     };
     let returned = catch_unwind(AssertUnwindSafe(call)).map_err(|_| "it panicked".to_string())??;
     Ok(Outcome { returned, network, answers })
+}
+
+/// Does two runs in one call: they must do what the same runs did apart.
+fn perform_both(engine: &dyn Both, case: &Case, lists: [&[u8]; 2], apart: [&Outcome; 2]) -> Result<(), String> {
+    let (mut network1, mut network2) = (case.network.clone(), case.network.clone());
+    let mut answers1: Vec<i32> = (0..case.space).map(unanswered).collect();
+    let mut answers2 = answers1.clone();
+    let [returned1, returned2] = guarded(&mut network1, |network1| {
+        guarded(&mut network2, |network2| {
+            guarded(&mut answers1, |answers1| {
+                guarded(&mut answers2, |answers2| {
+                    engine.run_both(&case.program, [network1, network2], lists, [answers1, answers2])
+                })
+            })
+        })
+    })????;
+    let first = Outcome { returned: returned1, network: network1, answers: answers1 };
+    let second = Outcome { returned: returned2, network: network2, answers: answers2 };
+    for (which, both, apart) in [("first", first, apart[0]), ("second", second, apart[1])] {
+        if both != *apart {
+            let names = [format!("the {which} of two runs in one call"), "the same run alone".into()];
+            return Err(show::unlike(names, &both, apart));
+        }
+    }
+    Ok(())
 }
 
 /// The events of a list that was read.
@@ -195,6 +254,8 @@ pub struct Report {
     pub cases: u64,
     pub events: u64,
     pub pairs_of_orders: u64,
+    /// How often two runs were done in one call.
+    pub in_one_call: u64,
     /// How often each number was returned.
     pub returned: BTreeMap<u32, u64>,
     /// How often each number was answered.
@@ -236,11 +297,26 @@ fn in_words(engines: &[&dyn Engine], difference: String, case: &Case, name: &str
     }
 }
 
-/// Does a case on one engine: its list, and for demand 3 the reordering too.
+/// Does a case on one engine: its list, and for demand 3 the reordering too; runs also two in one call.
 fn outcomes(engine: &dyn Engine, case: &Case) -> Result<Vec<Outcome>, String> {
     let lists: &[&[u8]] = if case.call == Call::Orders { &[&case.list, &case.reordered] } else { &[&case.list] };
+    let named = |what: String| format!("{}: {what}", engine.name());
     let outcomes: Result<Vec<Outcome>, String> = lists.iter().map(|list| perform(engine, case, list)).collect();
-    outcomes.map_err(|what| format!("{}: {what}", engine.name()))
+    let outcomes = outcomes.map_err(named)?;
+    if let (Call::Run | Call::Orders, Some(both)) = (case.call, engine.both()) {
+        // A single list goes beside an empty one, which has its own end; on either side.
+        let (other, by) = match outcomes.get(1) {
+            Some(outcome) => (outcome.clone(), &case.reordered[..]),
+            None => (perform(engine, case, &[]).map_err(named)?, &[][..]),
+        };
+        let (mut lists, mut apart) = ([&case.list[..], by], [&outcomes[0], &other]);
+        if case.list.len() % 2 == 1 {
+            lists.reverse();
+            apart.reverse();
+        }
+        perform_both(both, case, lists, apart).map_err(named)?;
+    }
+    Ok(outcomes)
 }
 
 /// What one engine did, against all that is known without another one.
@@ -261,6 +337,9 @@ pub fn compare_one(engines: &[&dyn Engine], case: &Case, report: &mut Report) ->
     }
     right(case, &first).map_err(|what| format!("{} (and all others): {what}", engines[0].name()))?;
     count(case, &first, report);
+    if matches!(case.call, Call::Run | Call::Orders) {
+        report.in_one_call += engines.iter().filter(|engine| engine.both().is_some()).count() as u64;
+    }
     Ok(())
 }
 

@@ -37,7 +37,10 @@ fn print_counts(report: &Report) {
     }
     println!("  returned: {:?}", report.returned);
     println!("  answered: {:?}", report.answered);
-    println!("  {} cases, {} events, {} pairs of orders", report.cases, report.events, report.pairs_of_orders);
+    println!(
+        "  {} cases, {} events, {} pairs of orders, {} times two runs in one call",
+        report.cases, report.events, report.pairs_of_orders, report.in_one_call
+    );
 }
 
 /// One comparison; whether it found no difference.

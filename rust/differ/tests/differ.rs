@@ -1,6 +1,6 @@
 //! The comparison finds no difference where there is none, and finds every bug that was put in.
 
-use differ::{catch_mutants, compare, compare_all, Engine, Report, Second};
+use differ::{catch_mutants, compare, compare_all, Both, Engine, Report, Returned, Second};
 use mutants::Mutant;
 
 fn alike(report: &Report) {
@@ -22,7 +22,9 @@ fn copy_without_a_bug() {
 #[cfg(feature = "proved")]
 #[test]
 fn proved_engine_against_second_engine() {
-    alike(&compare(&differ::Proved, &Second, 107, 20_000));
+    let report = compare(&differ::Proved, &Second, 107, 20_000);
+    alike(&report);
+    assert!(report.in_one_call > 5_000, "only {} times two runs in one call", report.in_one_call);
 }
 
 /// Every labelled case brings the refusal its label begins with, and no other; every refusal and answer is met.
@@ -86,6 +88,80 @@ fn demand_3_can_fail() {
         let report = compare_all(&[&engine], 105, 2_000);
         let difference = report.difference.expect("it depends on the order");
         assert!(difference.contains("demand 3"), "{difference}");
+    }
+}
+
+/// The second engine with a call for two runs that ends with something else than two runs.
+struct Twofold(fn(&mut [Returned; 2], [&mut [i32]; 2], [&mut [i32]; 2]));
+
+impl Engine for Twofold {
+    fn name(&self) -> String {
+        "twofold".into()
+    }
+    fn check(&self, program: &[u8]) -> (u32, usize) {
+        second::check(program)
+    }
+    fn fresh(&self, network: &mut [i32]) -> (u32, usize) {
+        second::fresh(network)
+    }
+    fn event(&self, program: &[u8], network: &mut [i32], list: &[u8], answers: &mut [i32]) -> (u32, usize) {
+        second::event(program, network, list, answers)
+    }
+    fn run(&self, program: &[u8], network: &mut [i32], list: &[u8], answers: &mut [i32]) -> (u32, usize) {
+        second::run(program, network, list, answers)
+    }
+    fn both(&self) -> Option<&dyn Both> {
+        Some(self)
+    }
+}
+
+impl Both for Twofold {
+    fn run_both(
+        &self,
+        program: &[u8],
+        [network1, network2]: [&mut [i32]; 2],
+        lists: [&[u8]; 2],
+        [answers1, answers2]: [&mut [i32]; 2],
+    ) -> [Returned; 2] {
+        let first = second::run(program, network1, lists[0], answers1);
+        let second = second::run(program, network2, lists[1], answers2);
+        let mut returned = [first, second];
+        (self.0)(&mut returned, [network1, network2], [answers1, answers2]);
+        returned
+    }
+}
+
+/// Two runs in one call are held to the same runs alone: what they return, both networks, both answer spaces.
+#[test]
+fn two_runs_in_one_call_can_fail() {
+    let right = compare_all(&[&Twofold(|_, _, _| {})], 109, 2_000);
+    alike(&right);
+    assert!(right.in_one_call > 500, "only {}", right.in_one_call);
+    let wrong = [
+        Twofold(|returned, _, _| returned[0].1 += 1),
+        Twofold(|returned, _, _| returned[1] = returned[0]),
+        Twofold(|returned, _, _| returned[0] = returned[1]),
+        Twofold(|returned, [_, network2], _| {
+            if returned[1].0 == 0 {
+                network2[0] = 7;
+            }
+        }),
+        Twofold(|_, [network1, _], _| {
+            if let Some(cell) = network1.last_mut() {
+                *cell = 7;
+            }
+        }),
+        Twofold(|_, _, [answers1, answers2]| {
+            if answers1.len() > 1 {
+                answers1.swap_with_slice(answers2);
+                answers2[1] ^= 1;
+            }
+        }),
+    ];
+    for (at, engine) in wrong.iter().enumerate() {
+        let report = compare_all(&[engine], 109, 20_000);
+        let difference = report.difference.unwrap_or_else(|| panic!("wrong in way {at}"));
+        assert!(difference.contains("two runs in one call"), "{difference}");
     }
 }
 
