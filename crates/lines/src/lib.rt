@@ -1,0 +1,92 @@
+// The lines that the replay prints, put one behind the other into a lent buffer.
+ghost use mathlib.Core.Path.{_≡_};
+ghost use Prim.Native.Nat.{_+_, _*_, _≤_};
+ghost use lib.ListN.{length, take};
+ghost use lib.IntN.{natAbs};
+ghost use Rattle.lines.specs.Text.{decimal, signed, line, lines, refused, Put, Begins};
+
+// Room for 1,024 lines of at most 80 bytes, one for each event that 4,096 bytes can hold.
+pub const ROOM: usize = 81920;
+
+// Puts a text at `at` into the buffer, and answers where the next one goes. The same of each `put_` below.
+fn put(text: &[u8], out: &mut [u8], at: usize) -> usize
+    requires { ⌜ at + length (now text) ≤ length (now out) ⌝ }
+    ensures { λ r. ⌜ Put (now (out .entry)) at (now (text .entry)) (length (now (text .entry))) (now (out .exit)) r ⌝ }
+{
+    let mut i: usize = 0;
+    while i < text.len() {
+        out[at + i] = text[i];
+        i += 1;
+    }
+    at + i
+}
+
+// The digits that io spells are `decimal`, this crate's definition: proved in proofs/Digits.
+fn put_decimal(n: u64, out: &mut [u8], at: usize) -> usize
+    requires { ⌜ at + 20 ≤ length (now out) ⌝ }
+    ensures { λ r. ⌜ Put (now (out .entry)) at (decimal n) 20 (now (out .exit)) r ⌝ }
+{
+    let mut digits = [0u8; 20];
+    let k = io::decimal(n, &mut digits);
+    put(&digits[..k], out, at)
+}
+
+// How far x is from 0. -1 - x has no overflow, where -x may.
+fn size(x: i32) -> u64
+    ensures { λ r. ⌜ r ≡ natAbs x ⌝ }
+{
+    if x < 0 {
+        return ((-1 - x) as u64) + 1;
+    }
+    x as u64
+}
+
+fn put_signed(x: i32, out: &mut [u8], at: usize) -> usize
+    requires { ⌜ at + 21 ≤ length (now out) ⌝ }
+    ensures { λ r. ⌜ Put (now (out .entry)) at (signed x) 21 (now (out .exit)) r ⌝ }
+{
+    if x < 0 {
+        let at = put(b"-", out, at);
+        return put_decimal(size(x), out, at);
+    }
+    put_decimal(size(x), out, at)
+}
+
+// An event's line. 65 bytes at the most, so that 80 are room enough.
+fn put_line(i: u64, code: i32, value: i32, out: &mut [u8], at: usize) -> usize
+    requires { ⌜ at + 80 ≤ length (now out) ⌝ }
+    ensures { λ r. ⌜ Put (now (out .entry)) at (line i code value) 80 (now (out .exit)) r ⌝ }
+{
+    let at = put_decimal(i, out, at);
+    let at = put(b" ", out, at);
+    let at = put_signed(code, out, at);
+    let at = put(b" ", out, at);
+    let at = put_signed(value, out, at);
+    put(b"\n", out, at)
+}
+
+// The line of a refusal: how many bytes it has.
+pub fn put_refused(number: u64, place: u64, out: &mut [u8]) -> usize
+    requires { ⌜ 80 ≤ length (now out) ⌝ }
+    ensures { λ r. ⌜ Begins (now (out .exit)) r (refused number place) ⌝ }
+{
+    let at = put(b"refused ", out, 0);
+    let at = put_decimal(number, out, at);
+    let at = put(b" ", out, at);
+    let at = put_decimal(place, out, at);
+    put(b"\n", out, at)
+}
+
+// The lines of n events, whose answers stand in the first 2n cells: how many bytes they have.
+pub fn put_lines(cells: &[i32], n: usize, out: &mut [u8]) -> usize
+    requires { ⌜ (2 * n ≤ length (now cells)) × (80 * n ≤ length (now out)) ⌝ }
+    ensures { λ r. ⌜ Begins (now (out .exit)) r (lines 0 n (now (cells .entry))) ⌝ }
+{
+    let mut at: usize = 0;
+    let mut i: usize = 0;
+    while i < n {
+        at = put_line(i as u64, cells[2 * i], cells[2 * i + 1], out, at);
+        i += 1;
+    }
+    at
+}

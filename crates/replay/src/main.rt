@@ -1,0 +1,40 @@
+// The replay of a shift: reads program.pf and events.pf in the current folder, and prints the answers or the refusal.
+ghost use mathlib.Core.Path.{_≡_};
+ghost use Prim.Native.Nat.{_≤_};
+ghost use lib.ListN.{length};
+ghost use Rattle.io.specs.Counts.{Counts};
+ghost use Rattle.replay.specs.Printed.{Printed};
+use libc::STDERR_FILENO;
+use libc::STDOUT_FILENO;
+
+// One byte more than a replay file may have.
+const LONGER: usize = 4097;
+
+// Puts the text at the start of `out`: how many bytes it has.
+fn replay(program: &mut [u8], list: &mut [u8], out: &mut [u8]) -> usize
+    requires { ⌜ (length (now program) ≡ 4097) × (length (now list) ≡ 4097) ⌝ }
+    requires { ⌜ 81920 ≤ length (now out) ⌝ }
+    ensures { λ r. ⌜ Counts r (now (out .exit)) ⌝ }
+    ensures { λ r. ⌜ Printed (now (out .exit)) r ⌝ }
+{
+    let first = files::read(b"program.pf", program);
+    let files::Whole::Bytes(p) = first else {
+        return lines::put_refused(18, 0, out); // no program
+    };
+    let second = files::read(b"events.pf", list);
+    let files::Whole::Bytes(n) = second else {
+        return lines::put_refused(18, 0, out); // no list
+    };
+    shift::replayed(&program[..p], &list[..n], out)
+}
+
+fn main() {
+    let mut program = [0u8; LONGER];
+    let mut list = [0u8; LONGER];
+    let mut out = [0u8; lines::ROOM];
+    let n = replay(&mut program, &mut list, &mut out);
+    let is_written = io::write_all(STDOUT_FILENO, &out[..n]);
+    if !is_written {
+        io::write_all(STDERR_FILENO, b"replay: cannot write\n");
+    }
+}
