@@ -279,6 +279,7 @@ int main(void) {
     sums(0);
     expect("event, 127 sums, each the left side of the next", event, 0, 0, 128);
     sums(1);
+    expect("check, 127 sums, each the right side of the next", check, 0, 0, 0);
     expect("event, 127 sums, each the right side of the next", event, 0, 0, 128);
     for (int at = 0; at < 3; at++) {
         static const char *const operand[] = {"condition", "then", "else"};

@@ -53,7 +53,7 @@ fn carry_out(
     if p.number != 0 {
         return verdict::refused(p.number, p.place);
     }
-    let sound = cells::soundness(&*network);
+    let sound = scan::soundness(&*network);
     if sound.number != 0 {
         return sound;
     }

@@ -14,6 +14,7 @@ use Rattle.words.specs.Word.{form, word}
 use Rattle.words.specs.Trees.{treeAt}
 use Rattle.masks.specs.Formed.{nodes, width, operand, part, Formed}
 use Rattle.masks.proofs.Trees.{View, is-0, is-1, is-2, is-3, is-4, is-5, is-6, is-7, is-8, is-9, is-10, is-16, is-17, is-18, is-19, view}
+use Rattle.masks.proofs.Leaves.{Leaf, leaf-0, leaf-1, leaf-2, leaf-17}
 use Rattle.costs.specs.Costs.{capped, bodyCost, Noted, Asks, Gives}
 
 all-cost : {ws : List ℕ} {n w : ℕ} → View ws n w
@@ -35,11 +36,8 @@ all-cost (is-17 h e) = rw (e, h)
 all-cost (is-18 h e) = rw (e, h) (simp add-zero)
 all-cost (is-19 h e) = rw (e, h) (simp add-zero)
 
-capped-sum : {x y : ℕ} (a b : ℕ) → x ≡ capped a → y ≡ capped b → capped (x + y) ≡ capped (a + b)
-capped-sum a b p q = omega arith
-
-capped-fifteen : {r x : ℕ} (a : ℕ) → r ≡ capped (15 * x) → x ≡ capped a → r ≡ capped (15 * a)
-capped-fifteen a p q = omega arith
+capped-once : {x : ℕ} (a b : ℕ) → x ≡ capped a → capped (x + b) ≡ capped (a + b)
+capped-once a b p = omega arith
 
 -- a cost that was counted is at most the cap
 pub at-most : {ws notes : List ℕ} {r c : ℕ} → Gives ws notes r c → r ≤ 1000001
@@ -49,43 +47,67 @@ pub within : {r : ℕ} (x : ℕ) → r ≡ capped x → r ≤ 1000001
 within x e = omega arith
 
 -- the sums of the code, one after the other
-pub joined : {ws : List ℕ} {n a b c d e s1 s2 s3 s4 s5 : ℕ} → Formed ws n
-    → a ≡ capped (cost (part ws (word ws n) 0)) → s1 ≡ capped (1 + a)
-    → b ≡ capped (cost (part ws (word ws n) 1)) → s2 ≡ capped (s1 + b)
-    → c ≡ capped (cost (part ws (word ws n) 2)) → s3 ≡ capped (s2 + c)
-    → d ≡ capped (cost (part ws (word ws n) 3)) → s4 ≡ capped (s3 + d)
-    → e ≡ capped (bodyCost ws (word ws n)) → s5 ≡ capped (s4 + e)
-    → s5 ≡ capped (cost (treeAt ws n))
-joined {ws} {n} f ea e1 eb e2 ec e3 ed e4 ee e5 =
+pub joined : {ws : List ℕ} {n s0 s1 s2 s3 s4 s5 : ℕ} → Formed ws n → (sum : ℕ) → s0 ≡ capped (sum + 1)
+    → s1 ≡ capped (s0 + bodyCost ws (word ws n))
+    → s2 ≡ capped (s1 + cost (part ws (word ws n) 3))
+    → s3 ≡ capped (s2 + cost (part ws (word ws n) 2))
+    → s4 ≡ capped (s3 + cost (part ws (word ws n) 1))
+    → s5 ≡ capped (s4 + cost (part ws (word ws n) 0))
+    → s5 ≡ capped (sum + cost (treeAt ws n))
+joined {ws} {n} f sum e0 e1 e2 e3 e4 e5 =
     let x : ℕ → ℕ = λ j. cost (part ws (word ws n) j) in
-    let t1 = e1 ∙ capped-sum 1 (x 0) refl ea in
-    let t2 = e2 ∙ capped-sum (1 + x 0) (x 1) t1 eb in
-    let t3 = e3 ∙ capped-sum (1 + x 0 + x 1) (x 2) t2 ec in
-    let t4 = e4 ∙ capped-sum (1 + x 0 + x 1 + x 2) (x 3) t3 ed in
-    e5 ∙ capped-sum (1 + x 0 + x 1 + x 2 + x 3) (bodyCost ws (word ws n)) t4 ee ∙ ap capped (sym (all-cost (view f)))
+    let b : ℕ = bodyCost ws (word ws n) in
+    let t1 = e1 ∙ capped-once (sum + 1) b e0 in
+    let t2 = e2 ∙ capped-once (sum + 1 + b) (x 3) t1 in
+    let t3 = e3 ∙ capped-once (sum + 1 + b + x 3) (x 2) t2 in
+    let t4 = e4 ∙ capped-once (sum + 1 + b + x 3 + x 2) (x 1) t3 in
+    e5 ∙ capped-once (sum + 1 + b + x 3 + x 2 + x 1) (x 0) t4 ∙ ap capped (turn sum b (x 0) (x 1) (x 2) (x 3) ∙ ap (λ (c : ℕ). sum + c) (sym (all-cost (view f))))
+  where
+    turn : (s b x0 x1 x2 x3 : ℕ) → s + 1 + b + x3 + x2 + x1 + x0 ≡ s + (1 + x0 + x1 + x2 + x3 + b)
+    turn s b x0 x1 x2 x3 = omega arith
 
 -- ---- what a body adds, by the form
-module _ {ws notes : List ℕ} (w : ℕ) {k : ℕ} (e : k ≡ form w) where
-  pub body-fold : {r x o : ℕ} → k ≡ 8 → o ≡ operand w 4 → Gives ws notes x (cost (treeAt ws o)) → r ≡ capped (15 * x) → Gives ws notes r (bodyCost ws w)
+module _ {ws notes : List ℕ} (w : ℕ) {k : ℕ} (e : k ≡ form w) (sum : ℕ) where
+  pub body-fold : {r x y o : ℕ} → k ≡ 8 → o ≡ operand w 4 → Gives ws notes x (cost (treeAt ws o)) → y ≡ capped (15 * x) → r ≡ capped (sum + y)
+      → Gives ws notes r (sum + bodyCost ws w)
   unfolding bodyCost
-  body-fold h eo g er = record { value = rw (← e, h, ← eo) (capped-fifteen _ er (g .value)); noted = g .noted }
+  body-fold {r} {x} {y} {o} h eo g ey er =
+      record { value = rw (← e, h, ← eo) (fifteen-more (cost (treeAt ws o)) er ey (g .value)); noted = g .noted }
+    where
+      fifteen-more : {r x y : ℕ} (a : ℕ) → r ≡ capped (sum + y) → y ≡ capped (15 * x) → x ≡ capped a → r ≡ capped (sum + 15 * a)
+      fifteen-more a p q s = omega arith
 
-  pub body-call : {r o : ℕ} → k ≡ 9 → o ≡ operand w 4 → Gives ws notes r (cost (treeAt ws o)) → Gives ws notes r (bodyCost ws w)
+  pub body-call : {r x o : ℕ} → k ≡ 9 → o ≡ operand w 4 → Gives ws notes x (cost (treeAt ws o)) → r ≡ capped (sum + x) → Gives ws notes r (sum + bodyCost ws w)
   unfolding bodyCost
-  body-call h eo g = record { value = rw (← e, h, ← eo) (g .value); noted = g .noted }
+  body-call {r} {x} {o} h eo g er = record { value = rw (← e, h, ← eo) (more (cost (treeAt ws o)) er (g .value)); noted = g .noted }
+    where
+      more : {r x : ℕ} (a : ℕ) → r ≡ capped (sum + x) → x ≡ capped a → r ≡ capped (sum + a)
+      more a p q = omega arith
 
-  pub body-none : (k ≡ 8 → ⊥) → (k ≡ 9 → ⊥) → Noted ws notes → Gives ws notes 0 (bodyCost ws w)
+  pub body-none : (k ≡ 8 → ⊥) → (k ≡ 9 → ⊥) → Noted ws notes → sum ≤ 1000001 → Gives ws notes sum (sum + bodyCost ws w)
   unfolding bodyCost
-  body-none h l s = record { value = rw (← e, ne-eqb k 8 h, ne-eqb k 9 l); noted = s }
+  body-none h l s m = record { value = rw (← e, ne-eqb k 8 h, ne-eqb k 9 l) (omega arith); noted = s }
 
 -- ---- an operand's cost
-module _ {ws notes : List ℕ} (w j : ℕ) where
-  pub part-some : {r o : ℕ} → j < width w → o ≡ operand w j → Gives ws notes r (cost (treeAt ws o)) → Gives ws notes r (cost (part ws w j))
+module _ {ws notes : List ℕ} (w j sum : ℕ) where
+  pub part-some : {r o : ℕ} → j < width w → o ≡ operand w j → Gives ws notes r (sum + cost (treeAt ws o)) → Gives ws notes r (sum + cost (part ws w j))
   part-some h eo g = rw (lt-ltb j (width w) h, ← eo) g
 
-  pub part-none : width w ≤ j → Noted ws notes → Gives ws notes 0 (cost (part ws w j))
+  pub part-none : width w ≤ j → Noted ws notes → sum ≤ 1000001 → Gives ws notes sum (sum + cost (part ws w j))
   unfolding cost
-  part-none h s = rw (le-ltb j (width w) h) record { value = refl; noted = s }
+  part-none h s m = rw (le-ltb j (width w) h) record { value = omega arith; noted = s }
+
+-- a leaf costs 1
+leaf-cost : {ws : List ℕ} {n : ℕ} → Formed ws n → Leaf (word ws n) → cost (treeAt ws n) ≡ 1
+unfolding cost width bodyCost
+leaf-cost f (leaf-0 h) = all-cost (view f) ∙ rw h
+leaf-cost f (leaf-1 h) = all-cost (view f) ∙ rw h
+leaf-cost f (leaf-2 h) = all-cost (view f) ∙ rw h
+leaf-cost f (leaf-17 h) = all-cost (view f) ∙ rw h
+
+pub part-leaf : {ws notes : List ℕ} (w j sum : ℕ) {r o : ℕ} → j < width w → o ≡ operand w j → Formed ws o → Leaf (word ws o) → r ≡ capped (sum + 1)
+    → Noted ws notes → Gives ws notes r (sum + cost (part ws w j))
+part-leaf w j sum h eo f l er s = part-some w j sum h eo (record { value = rw (leaf-cost f l) er; noted = s })
 
 -- ---- no note, and one more
 zeros : (n k : ℕ) → getD {A = ℕ} (replicate n 0) k 0 ≡ 0
@@ -96,7 +118,7 @@ zeros (suc n) (suc k) = zeros n k
 pub none-noted : (ws : List ℕ) (n : ℕ) → Noted ws (replicate n 0)
 none-noted ws n = record { note = λ k h. absurd (h (zeros n k)) }
 
-pub noted-set : {ws notes : List ℕ} (n : ℕ) {r : ℕ} → Noted ws notes → r ≡ capped (cost (treeAt ws n)) → Noted ws (set notes n r)
+noted-set : {ws notes : List ℕ} (n : ℕ) {r : ℕ} → Noted ws notes → r ≡ capped (cost (treeAt ws n)) → Noted ws (set notes n r)
 noted-set {ws} {notes} n {r} s e = record { note = λ k. go k (eqb k n) (ltb n (length notes)) refl refl }
   where
     go : (k : ℕ) (a b : Bool) → eqb k n ≡ a → ltb n (length notes) ≡ b
@@ -106,9 +128,25 @@ noted-set {ws} {notes} n {r} s e = record { note = λ k. go k (eqb k n) (ltb n (
         absurd (h (List·getD-eq-default (set notes n r) 0 (omega (arith, length-set notes n r, eqb-true k n p, ltb-false n (length notes) q))))
     go k false b p q h = let g = getD-set-other notes n k r 0 (eqb-false k n p) in g ∙ s .note k (λ z. h (g ∙ z))
 
--- what a call of `cost` at a lower node asks
-pub asks : {ws notes : List ℕ} {n k o t : ℕ} → n * 2 ≡ t → Asks ws notes n → k ≡ o → o < n → (k * 2 + 1 < t) × Asks ws notes k
-asks m q e h = (omega arith, record { formed = q .formed; noted = q .noted; inside = omega (arith, q .inside) })
+-- a body whose cost is noted, and one whose cost is counted now
+pub is-noted : {ws notes : List ℕ} (b : ℕ) → Asks ws notes b → (getD notes b 0 ≡ 0 → ⊥) → Gives ws notes (getD notes b 0) (cost (treeAt ws b))
+is-noted b q h = record { value = q .noted .note b h; noted = q .noted }
+
+pub now-noted : {ws notes : List ℕ} (b : ℕ) {r : ℕ} → Gives ws notes r (0 + cost (treeAt ws b)) → Gives ws (set notes b r) r (cost (treeAt ws b))
+now-noted {ws} {notes} b {r} g =
+    let e : r ≡ capped (cost (treeAt ws b)) = omega (arith, g .value) in
+    record { value = e; noted = noted-set b (g .noted) e }
+
+-- what a call at a lower node asks
+module _ {ws notes : List ℕ} {n k o t : ℕ} (m : n * 3 ≡ t) (q : Asks ws notes n) (e : k ≡ o) (h : o < n) where
+  lower : Asks ws notes k
+  lower = record { formed = q .formed; noted = q .noted; inside = omega (arith, q .inside) }
+
+  pub asks-cost : {sum : ℕ} → sum ≤ 1000001 → (k * 3 + 1 < t) × (Asks ws notes k × (sum ≤ 1000001))
+  asks-cost s = (omega arith, (lower, s))
+
+  pub asks-noted : (k * 3 + 2 < t) × Asks ws notes k
+  asks-noted = (omega arith, lower)
 
 -- the notes go on from one call to the next
 pub goes-on : {ws notes later : List ℕ} {n r c : ℕ} → Asks ws notes n → Gives ws later r c → Asks ws later n

@@ -1,6 +1,7 @@
-// The cost of a program, by recursion over its tree, each node's cost noted once: a tree of more than 2^32 nodes costs no
+// The cost of a program, by recursion over its tree, each body's cost noted once: a tree of more than 2^32 nodes costs no
 // more steps than the table has nodes and operands. Costs are counted up to 1,000,001.
 use masks::form_of;
+use masks::leaf;
 use masks::operand;
 use masks::width_of;
 ghost use mathlib.Core.Path.{_≡_};
@@ -32,49 +33,63 @@ fn fifteen(x: u32) -> u32
     if s < CAP { s } else { CAP }
 }
 
-// The cost of operand j of node n, 0 where it has none.
-fn part(ws: &[u64; NODES], notes: &mut [u32; NODES], n: usize, j: u32) -> u32
-    requires { ⌜ (j < 4) × Asks (now ws) (now notes) n ⌝ }
-    ensures { λ r. ⌜ Gives (now (ws .entry)) (now (notes .exit)) r (costOf (partOf (now (ws .entry)) (word (now (ws .entry)) n) j)) ⌝ }
+// The cost of a body, counted once and noted.
+fn noted(ws: &[u64; NODES], notes: &mut [u32; NODES], b: usize) -> u32
+    requires { ⌜ Asks (now ws) (now notes) b ⌝ }
+    ensures { λ r. ⌜ Gives (now (ws .entry)) (now (notes .exit)) r (costOf (treeAt (now (ws .entry)) b)) ⌝ }
+{
+    let note = notes[b];
+    if note != 0 {
+        return note;
+    }
+    let c = cost(ws, notes, b, 0);
+    notes[b] = c;
+    c
+}
+
+// Each of the three adds to a sum. The cost of operand j of node n, 0 where it has none. A leaf is counted where it is
+// named.
+fn part(ws: &[u64; NODES], notes: &mut [u32; NODES], n: usize, j: u32, sum: u32) -> u32
+    requires { ⌜ (j < 4) × Asks (now ws) (now notes) n × (sum ≤ 1000001) ⌝ }
+    ensures { λ r. ⌜ Gives (now (ws .entry)) (now (notes .exit)) r (sum + costOf (partOf (now (ws .entry)) (word (now (ws .entry)) n) j)) ⌝ }
 {
     let w = ws[n];
     if j < width_of(w) as u32 {
-        return cost(ws, notes, operand(w, j));
+        let m = operand(w, j);
+        if leaf(ws[m]) {
+            return add(sum, 1);
+        }
+        return cost(ws, notes, m, sum);
     }
-    0
+    sum
 }
 
 // What the body that node n calls or folds by adds.
-fn body(ws: &[u64; NODES], notes: &mut [u32; NODES], n: usize) -> u32
-    requires { ⌜ Asks (now ws) (now notes) n ⌝ }
-    ensures { λ r. ⌜ Gives (now (ws .entry)) (now (notes .exit)) r (bodyCost (now (ws .entry)) (word (now (ws .entry)) n)) ⌝ }
+fn body(ws: &[u64; NODES], notes: &mut [u32; NODES], n: usize, sum: u32) -> u32
+    requires { ⌜ Asks (now ws) (now notes) n × (sum ≤ 1000001) ⌝ }
+    ensures { λ r. ⌜ Gives (now (ws .entry)) (now (notes .exit)) r (sum + bodyCost (now (ws .entry)) (word (now (ws .entry)) n)) ⌝ }
 {
     let w = ws[n];
     let k = form_of(w);
     if k == 8 {
-        return fifteen(cost(ws, notes, operand(w, 4)));
+        return add(sum, fifteen(noted(ws, notes, operand(w, 4))));
     }
     if k == 9 {
-        return cost(ws, notes, operand(w, 4));
+        return add(sum, noted(ws, notes, operand(w, 4)));
     }
-    0
+    sum
 }
 
-fn cost(ws: &[u64; NODES], notes: &mut [u32; NODES], n: usize) -> u32
-    requires { ⌜ Asks (now ws) (now notes) n ⌝ }
-    ensures { λ r. ⌜ Gives (now (ws .entry)) (now (notes .exit)) r (costOf (treeAt (now (ws .entry)) n)) ⌝ }
+// The cost of node n. Operand 0 comes last, as a call that is a jump.
+fn cost(ws: &[u64; NODES], notes: &mut [u32; NODES], n: usize, sum: u32) -> u32
+    requires { ⌜ Asks (now ws) (now notes) n × (sum ≤ 1000001) ⌝ }
+    ensures { λ r. ⌜ Gives (now (ws .entry)) (now (notes .exit)) r (sum + costOf (treeAt (now (ws .entry)) n)) ⌝ }
 {
-    let note = notes[n];
-    if note != 0 {
-        return note;
-    }
-    let s = add(1, part(ws, notes, n, 0));
-    let s = add(s, part(ws, notes, n, 1));
-    let s = add(s, part(ws, notes, n, 2));
-    let s = add(s, part(ws, notes, n, 3));
-    let s = add(s, body(ws, notes, n));
-    notes[n] = s;
-    s
+    let s = body(ws, notes, n, add(sum, 1));
+    let s = part(ws, notes, n, 3, s);
+    let s = part(ws, notes, n, 2, s);
+    let s = part(ws, notes, n, 1, s);
+    part(ws, notes, n, 0, s)
 }
 
 // The cost of the main node, or 1,000,001 where it is more.
@@ -84,5 +99,5 @@ pub fn main_cost(ws: &[u64; NODES], main: u16) -> u32
 {
     let zero: u32 = 0;
     let mut notes = [zero; NODES];
-    cost(ws, &mut notes, main as usize)
+    cost(ws, &mut notes, main as usize, 0)
 }

@@ -20,7 +20,7 @@ pub extern "C" fn cuddystove_check(program: &[u8]) -> verdict::Verdict
 pub extern "C" fn cuddystove_fresh(network: &mut [i32]) -> verdict::Verdict
     ensures { λ r. ⌜ (pair r, now (network .exit)) ≡ freshCall (now (network .entry)) ⌝ }
 {
-    cells::fresh(network)
+    fresh::fresh(network)
 }
 
 // Does one event, that of a list of exactly one field.

@@ -1,5 +1,5 @@
 -- What the proofs of several functions use, and `Lit`, for those who call `signal` in a run.
-pub mod Stores
+mod Stores
 pub mod Refusals
 pub mod Digit
 pub mod Variables

@@ -17,8 +17,9 @@ use lib.Signed.{leZ}
 use borrow.Author.Tests.{not-false, le-leb, eqb-true, ltb-true, ltb-false}
 use native.Mathlib.Nat.{add-zero}
 use native.Mathlib.Omega.{arith}
-use Rattle.effects.proofs.Stores.{store-has}
-use Rattle.effects.proofs.Refusals.{in-range, pair-of, both}
+use Rattle.network.proofs.Stores.{store-has}
+use Rattle.places.proofs.Devices.{pair-of, both}
+use Rattle.effects.proofs.Refusals.{in-range}
 use Rattle.round.specs.Round.{fired}
 use Rattle.effects.specs.Does.{Lit}
 use Rattle.effects.proofs.Variables.{fired-length, fired-sensors}

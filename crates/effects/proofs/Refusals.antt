@@ -1,21 +1,20 @@
 -- An event that is refused and one that is not: what it does, from the tests. Assumes nothing.
-use mathlib.Core.Path.{_≡_, refl, sym, ap, _∙_}
-use mathlib.Core.Bool.{Bool, true, false, not, _&&_, true≢false}
+use mathlib.Core.Path.{_≡_, refl, ap, _∙_}
+use mathlib.Core.Bool.{Bool, true, false, _&&_}
 use mathlib.Core.List.{List, [], _∷_}
-use Prim.Native.Nat.{ℕ, _≤_}
+use Prim.Native.Nat.{ℕ}
 use native.Mathlib.Omega.{arith}
-use lib.Dec.{leb}
-use lib.IntN.{ℤ, pos, negsuc}
-use lib.Signed.{ltZ, leZ}
+use lib.IntN.{ℤ, pos}
 use mir.Syntax.{w32}
 use mir.Val.{SFits, ofZ, toZ}
 use mir.Facts.{toZ-ofZ}
-use borrow.Author.Tests.{leb-true, le-leb, le-ltb, ne-eqb, not-true, not-false}
+use borrow.Author.Tests.{ne-eqb, not-false}
 use Rattle.program.specs.Table.{firstOf}
 use Rattle.program.specs.Tree.{Expr}
 use Rattle.network.specs.Cells.{write}
 use Rattle.event.specs.Event.{Event, deliver, lose}
 use Rattle.event.specs.Step.{isDevice, outOfRange, toItself, nothingPending, refusal, effect, plan}
+use Rattle.places.proofs.Devices.{Pair, pair-of}
 use Rattle.effects.specs.declared.Answer.{Answer}
 use Rattle.effects.specs.Does.{answerOf, Does}
 
@@ -53,13 +52,6 @@ module _ (n : List ℤ) (e : Event) where
   unfolding plan
   done r m p w q = record { network = λ main. rw p (w main); answer = λ main. rw p (q main) }
 
-pub both : (a b : Bool) → (a && b) ≡ true → (a ≡ true) × (b ≡ true)
-both true b q = (refl, q)
-both false b q = absurd (true≢false (sym q))
-
-pub device : (a : ℕ) → isDevice a ≡ true → (1 ≤ a) × (a ≤ 16)
-device a q = let h = both (leb 1 a) (leb a 16) q in (leb-true 1 a (h .0), leb-true a 16 (h .1))
-
 -- an event that is not refused
 first-false : (o t p : Bool) → firstOf ((o, 14) ∷ (t, 15) ∷ (p, 16) ∷ []) ≡ 0 → o ≡ false
 unfolding firstOf
@@ -70,34 +62,9 @@ pub in-range : (n : List ℤ) (e : Event) → refusal n e ≡ 0 → outOfRange e
 unfolding refusal
 in-range n e q = first-false _ _ _ q
 
-pub record Pair (a b : ℕ) : Type 0 where
-  pub a-low : 1 ≤ a
-  pub a-high : a ≤ 16
-  pub b-low : 1 ≤ b
-  pub b-high : b ≤ 16
-
-pub pair-of : (a b : ℕ) → (isDevice a && isDevice b) ≡ true → Pair a b
-pair-of a b q =
-    let h = both (isDevice a) (isDevice b) q in
-    let x = device a (h .0) in
-    let y = device b (h .1) in
-    record { a-low = x .0; a-high = x .1; b-low = y .0; b-high = y .1 }
-
 pub pair : (n : List ℤ) (a b : ℕ) → refusal n (deliver a b) ≡ 0 → Pair a b
 pair n a b q = pair-of a b (not-false (isDevice a && isDevice b) (in-range n (deliver a b) q))
 
 pub same-refusal : (n : List ℤ) (a b : ℕ) → refusal n (lose a b) ≡ refusal n (deliver a b)
 unfolding refusal
 same-refusal n a b = refl
-
--- ---- what a call said, with `!` before it
-pub said-no : {r t : Bool} → r ≡ t → not r ≡ true → t ≡ false
-said-no {r} e q = sym e ∙ not-true r q
-
-pub said-yes : {r t : Bool} → r ≡ t → not r ≡ false → t ≡ true
-said-yes {r} e q = sym e ∙ not-false r q
-
--- ---- 0 ≤ d is not d < 0
-pub sign : (d : ℤ) {t : Bool} → ltZ d (pos 0) ≡ t → leZ (pos 0) d ≡ not t
-sign (pos n) e = le-leb 0 n (omega arith) ∙ ap not (sym (le-ltb n 0 (omega arith)) ∙ e)
-sign (negsuc n) e = ap not e

@@ -11,7 +11,7 @@ use Rattle.field.specs.Field.{Field, each, everywhere, faultsIn}
 use Rattle.program.specs.Tree.{Expr, nothing, constant, parameter, variable, operator, sense, rep, branch, mux, nbr, range, foldOp, foldDef, call}
 use Rattle.network.specs.Cells.{store}
 use native.Mathlib.Omega.{arith}
-use Rattle.effects.proofs.Stores.{store-out, length-store}
+use Rattle.network.proofs.Stores.{store-out, length-store}
 use Rattle.round.specs.Round.{message, joined, isTrue, arguments, numberOf, fieldOf, round, after, fired, firedBy, State, Value, number, field, Outcome, done, fault, thenValue, onNumbers, onFields, operated, folded, stored, erased, reps, eval}
 
 module _ (m : ℕ) where

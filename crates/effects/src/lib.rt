@@ -1,14 +1,13 @@
 // Every event but fire, on the network's cells, each exactly as the crate event defines it.
 ghost use mathlib.Core.Path.{_≡_};
-ghost use mathlib.Core.Bool.{true, _&&_};
+ghost use mathlib.Core.Bool.{true};
 ghost use Prim.Native.Nat.{_+_, _<_, _≤_};
 ghost use lib.ListN.{getD};
 ghost use lib.IntN.{pos};
 ghost use lib.Signed.{leZ};
 ghost use Rattle.network.specs.Cells.{row, store};
-ghost use Rattle.network.specs.Network.{noMessage, isDistance};
 ghost use Rattle.event.specs.Event.{fire, deliver, lose, link, signal};
-ghost use Rattle.event.specs.Step.{isDevice, outOfRange, refusal, sensorsOf, heardFrom, pendingTo, digitSet};
+ghost use Rattle.event.specs.Step.{outOfRange, refusal, sensorsOf, digitSet};
 ghost use Rattle.effects.specs.Does.{answerOf, Does, Apart};
 
 // What an event is answered: 0 and the value, or a refusal and 0.
@@ -26,76 +25,11 @@ fn answered(code: i32) -> Answer
     }
 }
 
-fn is_device(a: u8) -> bool
-    ensures { λ r. ⌜ r ≡ isDevice a ⌝ }
-{
-    if a < 1 {
-        return false;
-    }
-    a <= 16
-}
-
-fn are_devices(a: u8, b: u8) -> bool
-    ensures { λ r. ⌜ r ≡ (isDevice a && isDevice b) ⌝ }
-{
-    if !is_device(a) {
-        return false;
-    }
-    is_device(b)
-}
-
 // Whether a fire of a is refused.
 pub fn fire_refused(a: u8) -> bool
     ensures { λ r. ⌜ r ≡ outOfRange (fire a) ⌝ }
 {
-    !is_device(a)
-}
-
-fn is_distance(d: i32) -> bool
-    ensures { λ r. ⌜ r ≡ isDistance d ⌝ }
-{
-    if d == -2147483648 {
-        return true;
-    }
-    if d < 0 {
-        return false;
-    }
-    d <= 1000000
-}
-
-// The cell of a's sensors, the row that a heard from b, and the row pending from a to b.
-fn sensors_of(a: u8) -> usize
-    requires { ⌜ 1 ≤ a ⌝ }
-    ensures { λ r. ⌜ r ≡ sensorsOf a ⌝ }
-{
-    ((a as usize) - 1) * 529 + 16
-}
-
-fn heard_from(a: u8, b: u8) -> usize
-    requires { ⌜ (1 ≤ a) × (1 ≤ b) ⌝ }
-    ensures { λ r. ⌜ r ≡ heardFrom a b ⌝ }
-{
-    ((a as usize) - 1) * 529 + (17 + 16 * ((b as usize) - 1))
-}
-
-fn pending_to(a: u8, b: u8) -> usize
-    requires { ⌜ (1 ≤ a) × (1 ≤ b) ⌝ }
-    ensures { λ r. ⌜ r ≡ pendingTo a b ⌝ }
-{
-    ((a as usize) - 1) * 529 + (273 + 16 * ((b as usize) - 1))
-}
-
-// The sixteen cells from `at` become those of a row with nothing pending.
-fn clear_row(net: &mut [i32], at: usize)
-    requires { do ⌜ at + 16 ≤ (← ⟦net.len()⟧) ⌝ }
-    ensures { λ _. ⌜ now (net .exit) ≡ store (now (net .entry)) at noMessage ⌝ }
-{
-    net[at] = 0;
-    let mut i: usize = 0;
-    while i < 15 {
-        net[at + 1 + i] = -2147483648;
-        i += 1;
-    }
+    !places::is_device(a)
 }
 
 // The fifteen cells from `to` become the fifteen from `from`, none of which is among them.
@@ -115,13 +49,13 @@ fn message_refusal(net: &[i32], a: u8, b: u8) -> i32
     requires { do ⌜ (← ⟦net.len()⟧) ≡ 8464 ⌝ }
     ensures { λ r. ⌜ r ≡ pos (refusal (now (net .entry)) (deliver a b)) ⌝ }
 {
-    if !are_devices(a, b) {
+    if !places::are_devices(a, b) {
         return 14;
     }
     if a == b {
         return 15;
     }
-    let at = pending_to(a, b);
+    let at = places::pending_to(a, b);
     if net[at] == 0 {
         return 16;
     }
@@ -137,10 +71,10 @@ pub fn deliver(net: &mut [i32], a: u8, b: u8) -> Answer
     if code != 0 {
         return answered(code);
     }
-    let at = pending_to(a, b);
-    let heard = heard_from(b, a);
+    let at = places::pending_to(a, b);
+    let heard = places::heard_from(b, a);
     copy_row(net, at + 1, heard + 1);
-    clear_row(net, at);
+    fresh::no_message(net, at);
     answered(0)
 }
 
@@ -153,7 +87,7 @@ pub fn lose(net: &mut [i32], a: u8, b: u8) -> Answer
     if code != 0 {
         return answered(code);
     }
-    clear_row(net, pending_to(a, b));
+    fresh::no_message(net, places::pending_to(a, b));
     answered(0)
 }
 
@@ -162,16 +96,16 @@ pub fn link(net: &mut [i32], a: u8, b: u8, distance: i32) -> Answer
     requires { do ⌜ (← ⟦net.len()⟧) ≡ 8464 ⌝ }
     ensures { λ r. ⌜ Does (now (net .entry)) (link a b distance) r (now (net .exit)) ⌝ }
 {
-    if !are_devices(a, b) {
+    if !places::are_devices(a, b) {
         return answered(14);
     }
-    if !is_distance(distance) {
+    if !rules::distance_sound(distance) {
         return answered(14);
     }
     if a == b {
         return answered(15);
     }
-    let at = heard_from(a, b);
+    let at = places::heard_from(a, b);
     net[at] = distance;
     answered(0)
 }
@@ -191,7 +125,7 @@ pub fn signal(net: &mut [i32], a: u8, sensor: u8, switch: u8) -> Answer
     requires { do ⌜ ((← ⟦net.len()⟧) ≡ 8464) × (leZ (pos 0) (getD (now net) (sensorsOf a) (pos 0)) ≡ true) ⌝ }
     ensures { λ r. ⌜ Does (now (net .entry)) (signal a sensor switch) r (now (net .exit)) ⌝ }
 {
-    if !is_device(a) {
+    if !places::is_device(a) {
         return answered(14);
     }
     if sensor > 15 {
@@ -200,7 +134,7 @@ pub fn signal(net: &mut [i32], a: u8, sensor: u8, switch: u8) -> Answer
     if switch > 1 {
         return answered(14);
     }
-    let at = sensors_of(a);
+    let at = places::sensors_of(a);
     net[at] = digit_set(net[at] as u32, sensor, switch) as i32;
     answered(0)
 }

@@ -3,40 +3,14 @@
 // `t`: a word a node. `u`: the variables of the reps under each node. `here`: the device's own cells 0 to 272.
 // `st`: the state (crate step). `env`: the parameters. `n`: the node.
 ghost use mathlib.Core.Path.{_≡_};
-ghost use mathlib.Core.Bool.{true, false};
-ghost use Prim.Native.Nat.{_<_, _≤_};
+ghost use Prim.Native.Nat.{_<_};
 ghost use lib.IntN.{pos};
 ghost use Rattle.domain.specs.Held.{held};
 ghost use Rattle.round.specs.Round.{arguments, folded, eval};
 ghost use Rattle.words.specs.Word.{form, word};
-ghost use Rattle.step.specs.State.{stateOf, faultOf, Gives, GivesField, GivesSide};
-ghost use Rattle.words.specs.Trees.{treeAt};
-ghost use Rattle.evaluate.specs.Asked.{argOf, Number, IsField, Argument, Inside};
-
-// A constant, a parameter or a variable.
-fn leaf(
-    t: &[u64; 256],
-    u: &[u16; 256],
-    here: &[i32; 273],
-    st: &mut [i32; 64],
-    env: &[i32; 4],
-    n: u16,
-) -> i32
-    requires { ⌜ (Number (now t) (now u) (now st) n) × (form (word (now t) n) < 3) ⌝ }
-    ensures { λ r. ⌜ Gives (eval (now (here .entry)) (treeAt (now (t .entry)) n) (now (env .entry)) (stateOf (now (st .entry)))) r (now (st .exit)) ⌝ }
-{
-    let i = n as usize;
-    let w = t[i];
-    let kind = step::form_of(w);
-    if kind == 0 {
-        return step::constant_of(w);
-    }
-    let p = step::item_of(w) as usize;
-    if kind == 1 {
-        return env[p];
-    }
-    st[p]
-}
+ghost use Rattle.step.specs.State.{stateOf, Gives, GivesField, GivesSide};
+ghost use Rattle.words.specs.Trees.{treeAt, argOf};
+ghost use Rattle.leaf.specs.Asked.{Number, IsField, Argument, Inside};
 
 // ---- the cycle: number_at, other_at, operand, argument, call, fold_by, field_at, side
 
@@ -53,8 +27,8 @@ fn operand(
     ensures { λ r. ⌜ Gives (eval (now (here .entry)) (treeAt (now (t .entry)) n) (now (env .entry)) (stateOf (now (st .entry)))) r (now (st .exit)) ⌝ }
 {
     let i = n as usize;
-    if step::form_of(t[i]) < 3 {
-        return leaf(t, u, here, st, env, n);
+    if unpack::form_of(t[i]) < 3 {
+        return leaf::leaf(t, u, here, st, env, n);
     }
     number_at(t, u, here, st, env, n)
 }
@@ -73,11 +47,11 @@ fn number_at(
 {
     let i = n as usize;
     let w = t[i];
-    let kind = step::form_of(w);
+    let kind = unpack::form_of(w);
     match kind {
         3 => {
-            let l = step::first(w);
-            let r = step::second(w);
+            let l = unpack::first(w);
+            let r = unpack::second(w);
             let x = operand(t, u, here, st, env, l);
             if st[32] != 0 {
                 return 0;
@@ -86,15 +60,15 @@ fn number_at(
             if st[32] != 0 {
                 return 0;
             }
-            step::number_op(st, n, step::item_of(w), x, y)
+            step::number_op(st, n, unpack::item_of(w), x, y)
         }
         6 => {
-            let x = operand(t, u, here, st, env, step::first(w));
+            let x = operand(t, u, here, st, env, unpack::first(w));
             if st[32] != 0 {
                 return 0;
             }
-            let a = step::second(w);
-            let b = step::third(w);
+            let a = unpack::second(w);
+            let b = unpack::third(w);
             if x == 1 {
                 let j = b as usize;
                 step::erase(st, u[j]);
@@ -106,24 +80,24 @@ fn number_at(
             }
         }
         9 => {
-            let k = step::count_of(w);
-            let a = argument(t, u, here, st, env, k > 0, step::first(w));
+            let k = unpack::count_of(w);
+            let a = argument(t, u, here, st, env, k > 0, unpack::first(w));
             if st[32] != 0 {
                 return 0;
             }
-            let b = argument(t, u, here, st, env, k > 1, step::second(w));
+            let b = argument(t, u, here, st, env, k > 1, unpack::second(w));
             if st[32] != 0 {
                 return 0;
             }
-            let c = argument(t, u, here, st, env, k > 2, step::third(w));
+            let c = argument(t, u, here, st, env, k > 2, unpack::third(w));
             if st[32] != 0 {
                 return 0;
             }
-            let d = argument(t, u, here, st, env, k > 3, step::fourth(w));
+            let d = argument(t, u, here, st, env, k > 3, unpack::fourth(w));
             if st[32] != 0 {
                 return 0;
             }
-            call(t, u, here, st, n, step::body_of(w), a, b, c, d)
+            call(t, u, here, st, n, unpack::body_of(w), a, b, c, d)
         }
         _ => other_at(t, u, here, st, env, n),
     }
@@ -142,18 +116,18 @@ fn other_at(
 {
     let i = n as usize;
     let w = t[i];
-    let kind = step::form_of(w);
+    let kind = unpack::form_of(w);
     match kind {
         4 => {
-            let s = operand(t, u, here, st, env, step::first(w));
+            let s = operand(t, u, here, st, env, unpack::first(w));
             if st[32] != 0 {
                 return 0;
             }
             step::lit_of(here[16], s)
         }
         5 => {
-            let v = step::item_of(w) as usize;
-            let x = operand(t, u, here, st, env, step::first(w));
+            let v = unpack::item_of(w) as usize;
+            let x = operand(t, u, here, st, env, unpack::first(w));
             if st[32] != 0 {
                 return 0;
             }
@@ -162,7 +136,7 @@ fn other_at(
                 st[v] = x;
                 return x;
             }
-            let y = operand(t, u, here, st, env, step::second(w));
+            let y = operand(t, u, here, st, env, unpack::second(w));
             if st[32] != 0 {
                 return 0;
             }
@@ -171,9 +145,9 @@ fn other_at(
             y
         }
         7 => {
-            let c = step::first(w);
-            let a = step::second(w);
-            let b = step::third(w);
+            let c = unpack::first(w);
+            let a = unpack::second(w);
+            let b = unpack::third(w);
             let y = operand(t, u, here, st, env, a);
             if st[32] != 0 {
                 return 0;
@@ -192,28 +166,28 @@ fn other_at(
             z
         }
         8 => {
-            let x = operand(t, u, here, st, env, step::first(w));
+            let x = operand(t, u, here, st, env, unpack::first(w));
             if st[32] != 0 {
                 return 0;
             }
-            let f = field_at(t, u, here, st, env, step::second(w));
+            let f = field_at(t, u, here, st, env, unpack::second(w));
             if st[32] != 0 {
                 return 0;
             }
-            fold_by(t, u, here, st, n, step::body_of(w), x, f)
+            fold_by(t, u, here, st, n, unpack::body_of(w), x, f)
         }
         10 => {
-            let x = operand(t, u, here, st, env, step::first(w));
+            let x = operand(t, u, here, st, env, unpack::first(w));
             if st[32] != 0 {
                 return 0;
             }
-            let f = field_at(t, u, here, st, env, step::second(w));
+            let f = field_at(t, u, here, st, env, unpack::second(w));
             if st[32] != 0 {
                 return 0;
             }
-            step::fold_op(st, n, step::item_of(w), x, f)
+            step::fold_op(st, n, unpack::item_of(w), x, f)
         }
-        _ => leaf(t, u, here, st, env, n),
+        _ => leaf::leaf(t, u, here, st, env, n),
     }
 }
 
@@ -300,29 +274,29 @@ fn field_at(
 {
     let i = n as usize;
     let w = t[i];
-    let kind = step::form_of(w);
+    let kind = unpack::form_of(w);
     match kind {
         16 => {
-            let x = operand(t, u, here, st, env, step::first(w));
+            let x = operand(t, u, here, st, env, unpack::first(w));
             if st[32] != 0 {
                 return domain::no_field();
             }
-            let slot = step::item_of(w) as usize;
+            let slot = unpack::item_of(w) as usize;
             st[16 + slot] = x;
-            step::heard_of(here, slot)
+            heard::heard_of(here, slot)
         }
         17 => {
-            let slot = step::item_of(w) as usize;
+            let slot = unpack::item_of(w) as usize;
             st[16 + slot] = 0;
-            step::range_of(here, slot)
+            heard::range_of(here, slot)
         }
         18 => {
-            let x = operand(t, u, here, st, env, step::first(w));
+            let x = operand(t, u, here, st, env, unpack::first(w));
             if st[32] != 0 {
                 return domain::no_field();
             }
-            let a = step::second(w);
-            let b = step::third(w);
+            let a = unpack::second(w);
+            let b = unpack::third(w);
             if x == 1 {
                 let k = b as usize;
                 step::erase(st, u[k]);
@@ -334,15 +308,15 @@ fn field_at(
             }
         }
         _ => {
-            let l = side(t, u, here, st, env, step::first(w));
+            let l = side(t, u, here, st, env, unpack::first(w));
             if st[32] != 0 {
                 return domain::no_field();
             }
-            let r = side(t, u, here, st, env, step::second(w));
+            let r = side(t, u, here, st, env, unpack::second(w));
             if st[32] != 0 {
                 return domain::no_field();
             }
-            step::field_op(st, n, step::item_of(w), l, r)
+            step::field_op(st, n, unpack::item_of(w), l, r)
         }
     }
 }
@@ -360,7 +334,7 @@ fn side(
     ensures { λ r. ⌜ GivesSide (eval (now (here .entry)) (treeAt (now (t .entry)) n) (now (env .entry)) (stateOf (now (st .entry)))) (form (word (now (t .entry)) n)) r (now (st .exit)) ⌝ }
 {
     let i = n as usize;
-    if step::form_of(t[i]) > 15 {
+    if unpack::form_of(t[i]) > 15 {
         return field_at(t, u, here, st, env, n);
     }
     let v = operand(t, u, here, st, env, n);

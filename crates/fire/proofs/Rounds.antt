@@ -25,7 +25,8 @@ use Rattle.effects.specs.declared.Answer.{Answer}
 use Rattle.effects.specs.Does.{answerOf}
 use Rattle.effects.proofs.Refusals.{is-14, is-0, turned}
 use Rattle.fire.specs.Fires.{atFirst, Puts, Fires}
-use Rattle.fire.proofs.Rows.{row-length, store-row, two-in, joined-length, from-same}
+use Rattle.domain.proofs.Laws.{from-same}
+use Rattle.fire.proofs.Rows.{row-length, store-row, two-in, joined-length}
 
 -- ---- the message to a device
 module _ (here : List ℤ) (s : State) (b : ℕ) where
@@ -50,7 +51,7 @@ message-length here s b h = go (eqZ (getD here (heardAt b + 0) (pos 0)) mark)
 
 messages-same : (l : List ℤ) (s : State) → each (message l s) ≡ each (message (take 273 l) s)
 unfolding message
-messages-same l s = from-same (message l s) (message (take 273 l) s) 1 16 (λ b h. rw (getD-take 273 l (heardAt b + 0) (pos 0) (omega arith)))
+messages-same l s = from-same (message l s) (message (take 273 l) s) 16 1 (λ j h. rw (getD-take 273 l (heardAt (1 + j) + 0) (pos 0) (omega arith)))
 
 -- ---- what a state's lists have
 module _ (st : List ℤ) (h : length st ≡ 64) where

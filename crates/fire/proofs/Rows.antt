@@ -9,24 +9,24 @@ use lib.ListN.{length, getD, take, drop, set, length-append, length-drop}
 use lib.Seq.{take-suc, take-suc-set, length-take-le, take-all, getD-take, getD-drop}
 use Rattle.field.specs.Field.{from}
 use Rattle.network.specs.Cells.{row, store}
+use Rattle.network.proofs.Stores.{length-store, nothing-yet, store-on, store-more}
 use Rattle.round.specs.Round.{joined}
-use Rattle.effects.proofs.Stores.{Stored, store-one, length-store}
 
 module _ {A : Type 0} where
-  store-append : (l : List A) (at : ℕ) (vs ws : List A) → store (store l at vs) (at + length vs) ws ≡ store l at (vs ++ ws)
-  store-append [] at vs ws = refl
-  store-append (x ∷ l) zero [] ws = refl
-  store-append (x ∷ l) zero (v ∷ vs) ws = rw (zero-add (suc (length vs))) (ap (v ∷_) (rw (zero-add (length vs)) at (store-append l zero vs ws)))
-  store-append (x ∷ l) (suc at) vs ws = rw (suc-add at (length vs)) (ap (x ∷_) (store-append l at vs ws))
+  -- what a loop has made of l: vs stands from `at` on
+  pub record Stored (l : List A) (at : ℕ) (vs net : List A) : Type 0 where
+    pub is : net ≡ store l at vs
+
+  pub none-yet : (l : List A) (at : ℕ) → Stored l at [] l
+  none-yet l at = record { is = nothing-yet l at }
 
   -- a loop that stores row after row, and one that stores cell after cell
   pub row-more : {l net vs : List A} {at : ℕ} (k : ℕ) (ws : List A) → length vs ≡ k → Stored l at vs net → Stored l at (vs ++ ws) (store net (at + k) ws)
-  row-more {l} {net} {vs} {at} k ws e h = record { is = rw (h .is, ← e) (store-append l at vs ws) }
+  row-more {l} {net} {vs} {at} k ws e h = record { is = rw (h .is) (store-on l at (at + k) vs ws (omega arith)) }
 
   pub cell-more : {l net : List A} {at : ℕ} (vs : List A) (i : ℕ) (d v : A) → i < length vs → v ≡ getD vs i d → Stored l at (take i vs) net
       → Stored l at (take (i + 1) vs) (set net (at + i) v)
-  cell-more {l} {net} {at} vs i d v h e s =
-      rw (e, store-one net (at + i) (getD vs i d), add-one i, take-suc vs i d h) (row-more i (getD vs i d ∷ []) (length-take-le i vs (omega arith)) s)
+  cell-more {l} {net} {at} vs i d v h e s = record { is = store-more l net at i vs d v h e (s .is) }
 
   pub cells-all : {l net : List A} {at : ℕ} (vs : List A) (i : ℕ) → length vs ≤ i → Stored l at (take i vs) net → net ≡ store l at vs
   cells-all vs i h s = s .is ∙ rw (take-all i vs h)
@@ -87,8 +87,3 @@ module _ {A : Type 0} where
   unfolding joined from
   joined-length f m a zero h = rw (mul-zero m)
   joined-length f m a (suc k) h = length-append (f a) (joined (from (suc a) k f)) ∙ rw (h a, joined-length f m (suc a) k h, mul-suc m k) (omega arith)
-
-  pub from-same : (f g : ℕ → A) (a k : ℕ) → ((b : ℕ) → b < a + k → f b ≡ g b) → from a k f ≡ from a k g
-  unfolding from
-  from-same f g a zero h = refl
-  from-same f g a (suc k) h = rw (h a (omega arith), from-same f g (suc a) k (λ b i. h b (omega arith)))

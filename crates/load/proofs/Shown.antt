@@ -8,12 +8,13 @@ use native.Mathlib.Numerals.{add-one}
 use lib.ListN.{length, getD, take, set, length-map}
 use lib.Seq.{length-take-le, take-suc-set, getD-take}
 use Rattle.program.specs.Table as program
-use Rattle.program.specs.Table.{Item, Definition, among, numbers, allNumbers, bodies, noDefinition, definitionAt, withNode, withDefinition}
+use Rattle.program.specs.Table.{Item, Definition, among, numbers, allNumbers, bodies, withNode, withDefinition}
 use Rattle.nodes.specs.declared.Node.{Node}
+use Rattle.nodes.specs.Body.{noNode}
 use Rattle.nodes.specs.Values.{nodeOf}
 use Rattle.nodes.proofs.Marks.{among-append}
 use Rattle.load.specs.declared.Table.{Table}
-use Rattle.load.specs.Loads.{paired, tableOf, noNode, nodeAt}
+use Rattle.load.specs.Loads.{paired, tableOf, nodeAt}
 use Rattle.load.specs.Steps.{put, define}
 
 length-paired : (cs bs : List ℕ) → length cs ≡ length bs → length (paired cs bs) ≡ length cs
@@ -60,9 +61,9 @@ module _ (t : Table) where
         let m = length-take-le (t .n) (t .nodes) h in
         map-at (take (t .n) (t .nodes)) i x (omega arith) ∙ ap nodeOf (getD-take (t .n) (t .nodes) i noNode l)
 
-  pub shown-put : (x : Node) (lead : ℕ) (ks : List ℕ) → t .n < length (t .nodes) → tableOf (put t x lead ks) ≡ withNode (tableOf t) (nodeOf x)
+  pub shown-put : (x : Node) → t .n < length (t .nodes) → tableOf (put t x) ≡ withNode (tableOf t) (nodeOf x)
   unfolding tableOf put
-  shown-put x lead ks h =
+  shown-put x h =
       let e : map nodeOf (take (t .n + 1) (set (t .nodes) (t .n) x)) ≡ map nodeOf (take (t .n) (t .nodes)) ++ nodeOf x ∷ [] =
       ap (λ (i : ℕ). map nodeOf (take i (set (t .nodes) (t .n) x))) (add-one (t .n))
       ∙ ap (map nodeOf) (take-suc-set (t .nodes) (t .n) x h)

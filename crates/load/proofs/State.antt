@@ -15,28 +15,30 @@ use Rattle.program.proofs.Items.{same-items}
 use Rattle.program.proofs.Tests.{either, second}
 use Rattle.nodes.specs.declared.Node.{Node}
 use Rattle.nodes.specs.Agrees.{Agree}
-use Rattle.nodes.specs.Body.{leadOf, widthOf, kidsOf, itemOf, constantOf, made}
+use Rattle.nodes.specs.Body.{noNode, leadOf, widthOf, kidsOf, itemOf, constantOf, made, nodeIn}
 use Rattle.nodes.specs.Marked.{marked, markIf}
 use Rattle.nodes.specs.Ranges.{Ranges}
-use Rattle.nodes.specs.Values.{nodeOf}
+use Rattle.nodes.specs.Values.{childrenOf, nodeOf}
 use Rattle.nodes.proofs.Items.{same-kids, few-kids, in-ranges}
-use Rattle.nodes.proofs.Body.{node-made, node-children, node-slots, node-keeps}
+use Rattle.nodes.proofs.Body.{children-made, node-made, node-children, node-slots, node-keeps}
 use Rattle.nodes.proofs.Marks.{same, among-append, set-agrees, if-agrees, marked-agrees}
+use Rattle.rows.specs.Marks.{Marks, withRoot}
+use Rattle.rows.specs.Marks.{withNode as marksWith}
 use Rattle.rows.specs.Shows.{Shows}
 use Rattle.rows.proofs.Clear.{NodeClear, DefinitionClear}
 use Rattle.load.specs.declared.Table.{Table}
-use Rattle.load.specs.Loads.{paired, tableOf, nodeAt, noNode, GoodNode, Good}
-use Rattle.load.specs.Steps.{emptyTable, put, addKind, define}
+use Rattle.load.specs.Loads.{paired, tableOf, nodeAt, GoodNode, Good}
+use Rattle.load.specs.Steps.{emptyTable, noMarks, put, addKind, define}
 use Rattle.load.proofs.Shown.{shown-nodes, shown-put, shown-definitions, shown-definition, shown-define, among-numbers, among-bodies}
 
-pub record State (t : Table) : Type 0 where
+pub record State (t : Table) (m : Marks) : Type 0 where
   pub good : Good t
-  pub named : Agree (t .marks .named) (program.named (tableOf t))
-  pub slots : Agree (t .marks .slots) (allNumbers slot (tableOf t .nodes))
-  pub kept : Agree (t .marks .kept) (allNumbers keeps (tableOf t .nodes))
+  pub named : Agree (m .named) (program.named (tableOf t))
+  pub slots : Agree (m .slots) (allNumbers slot (tableOf t .nodes))
+  pub kept : Agree (m .kept) (allNumbers keeps (tableOf t .nodes))
 
-pub shows-of : (t : Table) → State t → Shows (t .n) (t .defs) (t .counts) (t .marks) (tableOf t)
-shows-of t st =
+pub shows-of : (t : Table) (m : Marks) → State t m → Shows (t .n) (t .defs) (t .counts) m (tableOf t)
+shows-of t m st =
     let a = st .good .n in
     let b = st .good .defs in
     let c : t .defs ≤ length (t .counts) = omega (arith, st .good .longCounts) in
@@ -56,7 +58,7 @@ none-marked : Agree (replicate 256 false) []
 unfolding among
 none-marked = record { long = length-replicate 256 false; each = λ k h. getD-replicate 256 k false false h }
 
-pub beginning : State emptyTable
+pub beginning : State emptyTable noMarks
 unfolding tableOf paired allNumbers bodies
 beginning =
     record {
@@ -98,7 +100,7 @@ call-item : (kind : ℕ) (s : List ℕ) → kind ≡ 12 → itemOf (leadOf kind)
 unfolding itemOf
 call-item kind s e = rw e
 
-module _ (t : Table) (st : State t) (kind : ℕ) (s : List ℕ) (cl : NodeClear kind s (t .n) (t .defs) (getD (t .counts) (getD s 0 0) 0) (t .marks)) where
+module _ (t : Table) (m : Marks) (st : State t m) (kind : ℕ) (s : List ℕ) (cl : NodeClear kind s (t .n) (t .defs) (getD (t .counts) (getD s 0 0) 0) m) where
   abbrev l : ℕ
   l = leadOf kind
 
@@ -113,13 +115,13 @@ module _ (t : Table) (st : State t) (kind : ℕ) (s : List ℕ) (cl : NodeClear 
   count′ = definitionAt (tableOf t) (getD s 0 0) .count
 
   abbrev x : Node
-  x = made kind l (kidsOf kind count) s ks
+  x = nodeIn kind count s
 
   abbrev y : program.Node
   y = program.nodeOf (tableOf t) kind s
 
   same-count : kind ≡ 12 → count ≡ count′
-  same-count q = shows-of t st .parameters (getD s 0 0) (cl .defined q)
+  same-count q = shows-of t m st .parameters (getD s 0 0) (cl .defined q)
 
   few : kidsOf kind count ≤ 4
   few = few-kids kind count (cl .known) (λ q. st .good .counts (getD s 0 0) (cl .defined q))
@@ -129,17 +131,22 @@ module _ (t : Table) (st : State t) (kind : ℕ) (s : List ℕ) (cl : NodeClear 
 
   -- the node that is put is the one that program puts
   pub put-shown : tableOf (addKind t kind s) ≡ withNode (tableOf t) y
+  unfolding nodeIn
   put-shown =
       let room = cl .room in
-      shown-put t x l ks (omega (arith, st .good .longNodes))
+      shown-put t x (omega (arith, st .good .longNodes))
       ∙ ap (withNode (tableOf t))
       (node-made kind count s (cl .known) (cl .right) few
       ∙ ap (λ (is : List Item). record { kind = kind; values = valuesIn is s }) (same-items kind count count′ (cl .known) same-count))
 
+  children : childrenOf x ≡ ks
+  unfolding nodeIn
+  children = children-made kind count s (cl .known) (cl .right) few
+
   bound : t .n ≤ 256
   bound = st .good .n
 
-  put-named : Agree (marked (t .marks .named) ks) (program.named (withNode (tableOf t) y))
+  put-named : Agree (marked (m .named) ks) (program.named (withNode (tableOf t) y))
   put-named = same (program.named (withNode (tableOf t) y)) (marked-agrees (t .n) ks bound (cl .given) (st .named)) of
     where
       of : (k : ℕ) → among k (ks ++ program.named (tableOf t)) ≡ among k (program.named (withNode (tableOf t) y))
@@ -152,9 +159,9 @@ module _ (t : Table) (st : State t) (kind : ℕ) (s : List ℕ) (cl : NodeClear 
           (among-numbers k child (tableOf t .nodes) y
           ∙ ap (λ (ns : List ℕ). among k ns || among k (allNumbers child (tableOf t .nodes))) (node-children kind count′ s (cl .known) right′)))
 
-  put-item : {m : List Bool} (j : Item) (c : ℕ) → (l ≡ c → itemOf l s < 256) → numbers j y ≡ cond (eqb l c) (itemOf l s ∷ []) []
-      → Agree m (allNumbers j (tableOf t .nodes)) → Agree (markIf (eqb l c) (itemOf l s) m) (allNumbers j (tableOf t .nodes ++ y ∷ []))
-  put-item {m} j c h e a =
+  put-item : {ms : List Bool} (j : Item) (c : ℕ) → (l ≡ c → itemOf l s < 256) → numbers j y ≡ cond (eqb l c) (itemOf l s ∷ []) []
+      → Agree ms (allNumbers j (tableOf t .nodes)) → Agree (markIf (eqb l c) (itemOf l s) ms) (allNumbers j (tableOf t .nodes ++ y ∷ []))
+  put-item {ms} j c h e a =
       same (allNumbers j (tableOf t .nodes ++ y ∷ [])) (if-agrees (eqb l c) (itemOf l s) (λ q. h (eqb-true l c q)) a)
       (λ k. among-append k (cond (eqb l c) (itemOf l s ∷ []) []) (allNumbers j (tableOf t .nodes))
       ∙ ap (λ (ns : List ℕ). among k ns || among k (allNumbers j (tableOf t .nodes))) (sym e)
@@ -168,7 +175,7 @@ module _ (t : Table) (st : State t) (kind : ℕ) (s : List ℕ) (cl : NodeClear 
   low (inr q) = let h = range .keeps q in omega arith
 
   new-node : GoodNode (addKind t kind s) (t .n) x
-  unfolding put made
+  unfolding put nodeIn made
   new-node =
       record {
         kind = cl .known;
@@ -196,8 +203,8 @@ module _ (t : Table) (st : State t) (kind : ℕ) (s : List ℕ) (cl : NodeClear 
           rw (getD-set-other (t .nodes) (t .n) i x noNode d)
           (record { kind = g .kind; kids = g .kids; few = g .few; range = g .range; children = g .children; definition = g .definition })
 
-  pub put-state : State (addKind t kind s)
-  unfolding put made
+  pub put-state : State (addKind t kind s) (marksWith x m)
+  unfolding put nodeIn made
   put-state =
       let room = cl .room in
       record {
@@ -211,13 +218,13 @@ module _ (t : Table) (st : State t) (kind : ℕ) (s : List ℕ) (cl : NodeClear 
           counts = st .good .counts;
           bodies = λ d h. let b = st .good .bodies d h in omega arith;
         };
-        named = rw put-shown put-named;
+        named = rw (put-shown, children) put-named;
         slots = rw put-shown (put-item slot 5 (λ q. low (inl q)) (node-slots kind count′ s (cl .known) right′) (st .slots));
         kept = rw put-shown (put-item keeps 4 (λ q. low (inr q)) (node-keeps kind count′ s (cl .known) right′) (st .kept));
       }
 
 -- one definition more
-module _ (t : Table) (st : State t) (b : List ℕ) (cl : DefinitionClear b (t .n) (t .defs)) where
+module _ (t : Table) (m : Marks) (st : State t m) (b : List ℕ) (cl : DefinitionClear b (t .n) (t .defs)) where
   abbrev c : ℕ
   c = getD b 0 0
 
@@ -236,7 +243,7 @@ module _ (t : Table) (st : State t) (b : List ℕ) (cl : DefinitionClear b (t .n
   pub define-shown : tableOf (define t b) ≡ withDefinition (tableOf t) b
   define-shown = shown-define t b inCounts inBodies
 
-  define-named : Agree (set (t .marks .named) body true) (program.named (withDefinition (tableOf t) b))
+  define-named : Agree (set (m .named) body true) (program.named (withDefinition (tableOf t) b))
   unfolding among
   define-named =
       let given = cl .given in
@@ -287,7 +294,7 @@ module _ (t : Table) (st : State t) (b : List ℕ) (cl : DefinitionClear b (t .n
           let d = g .definition l .0 in
           sym (getD-set-other (t .counts) (t .defs) (x .item) c 0 (λ e. omega arith))
 
-  pub define-state : State (define t b)
+  pub define-state : State (define t b) (withRoot body m)
   unfolding define
   define-state =
       let r = cl .room in

@@ -1,12 +1,11 @@
 -- What loading comes to: the table that a loaded one stands for, what is known of a loaded one, and the loader's contract.
 use mathlib.Core.Path.{_≡_}
-use mathlib.Core.Bool.{true}
 use mathlib.Core.List.{List, [], _∷_, map}
 use Prim.Native.Nat.{ℕ, _≤_, _<_}
 use lib.ListN.{length, getD, take}
 use Rattle.program.specs.Table as program
 use Rattle.nodes.specs.declared.Node.{Node}
-use Rattle.nodes.specs.Body.{leadOf, kidsOf}
+use Rattle.nodes.specs.Body.{noNode, leadOf, kidsOf}
 use Rattle.nodes.specs.Ranges.{Ranges}
 use Rattle.nodes.specs.Values.{nodeOf}
 use Rattle.load.specs.declared.Table.{Table}
@@ -24,9 +23,6 @@ tableOf t =
       nodes = map nodeOf (take (t .n) (t .nodes));
       definitions = paired (take (t .defs) (t .counts)) (take (t .defs) (t .bodies));
     }
-
-abbrev pub noNode : Node
-noNode = record { kind = 0; item = 0; kids = 0; a = 0; b = 0; c = 0; d = 0; constant = 0 }
 
 abbrev pub nodeAt : Table → ℕ → Node
 nodeAt t i = getD (t .nodes) i noNode

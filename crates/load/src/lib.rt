@@ -1,13 +1,15 @@
 // Loads a program table: the fields of its bytes one after the other, each refused or taken into a table by value.
 ghost use mathlib.Core.Path.{_≡_};
-ghost use Prim.Native.Nat.{_≤_, _<_};
+ghost use Prim.Native.Nat.{ℕ, _≤_, _<_};
+ghost use lib.ListN.{length, getD};
+ghost use Rattle.nodes.specs.Body.{noNode};
+ghost use Rattle.rows.specs.Marks.{marksOf};
 ghost use Rattle.load.specs.Loads.{Loads};
-ghost use Rattle.load.specs.Steps.{emptyTable, refusal, numberIn, put, addNode, define, added, endNumber, finished};
+ghost use Rattle.load.specs.Steps.{tableIn, refusal, endNumber, Reads};
 
-// A call or fold by definition d has counts[d] parameters and the body bodies[d]. The marks say what is named already.
+// A call or fold by definition d has counts[d] parameters and the body bodies[d].
 pub struct Table {
     pub nodes: [nodes::Node; 256],
-    pub marks: rows::Marks,
     pub counts: [u8; 256],
     pub bodies: [u8; 256],
     pub n: usize,
@@ -22,194 +24,170 @@ pub struct Outcome {
     pub table: Table,
 }
 
-fn empty() -> Table
-    ensures { λ r. ⌜ r ≡ emptyTable ⌝ }
-{
-    Table {
-        nodes: [nodes::Node {
-            kind: 0,
-            item: 0,
-            kids: 0,
-            a: 0,
-            b: 0,
-            c: 0,
-            d: 0,
-            constant: 0,
-        }; 256],
-        marks: rows::Marks {
-            named: [false; 256],
-            slots: [false; 256],
-            kept: [false; 256],
-        },
-        counts: [0; 256],
-        bodies: [0; 256],
-        n: 0,
-        defs: 0,
-        main: 0,
-    }
+// A field that was read. Number 0: its tag, its node or its first two bytes, and where the next field begins. Else the
+// refusal and its place.
+struct Step {
+    number: u32,
+    place: usize,
+    next: usize,
+    tag: u8,
+    first: u8,
+    second: u8,
+    node: nodes::Node,
 }
 
-// A refusal at its place.
-fn refuse(number: u32, place: usize, t: Table) -> Outcome
-    ensures { λ r. ⌜ r ≡ refusal number place t ⌝ }
+// A field that is a node.
+fn node_step(number: u32, place: usize, next: usize, x: nodes::Node) -> Step
+    ensures { λ r. ⌜ r ≡ record { number = number; place = place; next = next; tag = 1; first = 0; second = 0; node = x } ⌝ }
 {
-    Outcome {
+    Step {
         number: number,
         place: place,
-        table: t,
+        next: next,
+        tag: 1,
+        first: 0,
+        second: 0,
+        node: x,
     }
 }
 
-// The refusal of a field at a table.
-fn number_in(tag: u8, b: &[u8], t: Table) -> u32
-    ensures { λ r. ⌜ r ≡ numberIn t tag (now (b .entry)) ⌝ }
+// A field that is none.
+fn root_step(number: u32, place: usize, next: usize, tag: u8, first: u8, second: u8) -> Step
+    ensures { λ r. ⌜ r ≡ record { number = number; place = place; next = next; tag = tag; first = first; second = second; node = noNode } ⌝ }
 {
-    let n = t.n;
-    let defs = t.defs;
-    let counts = t.counts;
-    let m = t.marks;
-    rows::field_number(tag, b, n, defs, counts, m)
+    Step {
+        number: number,
+        place: place,
+        next: next,
+        tag: tag,
+        first: first,
+        second: second,
+        node: nodes::none(),
+    }
 }
 
-// The table with one more node, whose children and item are marked.
-fn put_node(t: Table, x: nodes::Node, lead: u8, ks: &[u8]) -> Table
-    requires { ⌜ t .n < 256 ⌝ }
-    ensures { λ r. ⌜ r ≡ put t x lead (now (ks .entry)) ⌝ }
+// The field at `at`, in a table of n nodes and defs definitions. What it names is marked. Its place is how many whole
+// fields stand before it: each of them gave a node or a definition.
+fn read(
+    s: &[u8],
+    at: usize,
+    n: usize,
+    defs: usize,
+    counts: &[u8; 256],
+    named: &mut [bool; 256],
+    slots: &mut [bool; 256],
+    kept: &mut [bool; 256],
+) -> Step
+    requires { ⌜ (length (now named) ≡ 256) × (length (now slots) ≡ 256) × (length (now kept) ≡ 256) × ((d : ℕ) → d < defs → getD (now counts) d 0 ≤ 4) ⌝ }
+    requires { ⌜ (n ≤ 256) × (defs ≤ 32) ⌝ }
+    ensures { λ r. ⌜ Reads (now (s .entry)) at n defs (now (counts .entry)) (marksOf (now (named .entry)) (now (slots .entry)) (now (kept .entry))) r (marksOf (now (named .exit)) (now (slots .exit)) (now (kept .exit))) ⌝ }
 {
-    let m = t.marks;
-    let named0 = m.named;
-    let slots0 = m.slots;
-    let kept0 = m.kept;
-    let named = nodes::mark(ks, named0);
-    let slots = nodes::mark_if(lead == 5, x.item, slots0);
-    let kept = nodes::mark_if(lead == 4, x.item, kept0);
-    let marks = rows::Marks {
-        named: named,
-        slots: slots,
-        kept: kept,
+    let place = n + defs;
+    let f = reader::read_field(s, at);
+    let reader::Field::Whole {
+        tag,
+        start,
+        len: _,
+        next,
+    } = f
+    else {
+        return root_step(1, place, 0, 0, 0, 0);
     };
-    let n = t.n;
-    let mut u = t;
-    u.nodes[n] = x;
-    u.marks = marks;
-    u.n = n + 1;
-    u
-}
-
-// The node of a field's body taken into the table.
-fn add_node(b: &[u8], t: Table) -> Table
-    requires { ⌜ t .n < 256 ⌝ }
-    ensures { λ r. ⌜ r ≡ addNode t (now (b .entry)) ⌝ }
-{
-    let kind = nodes::get(b, 0);
-    let s = nodes::after(b, 1);
-    let d = nodes::get(s, 0) as usize;
-    let shape = nodes::shape_of(kind, t.counts[d]);
-    let ks = nodes::after(s, shape.width as usize);
-    let x = nodes::make(kind, shape.lead, shape.kids, s, ks);
-    put_node(t, x, shape.lead, ks)
-}
-
-// The table with one more definition, whose body is marked.
-fn add_definition(b: &[u8], t: Table) -> Table
-    requires { ⌜ t .defs < 256 ⌝ }
-    ensures { λ r. ⌜ r ≡ define t (now (b .entry)) ⌝ }
-{
-    let count = nodes::get(b, 0);
-    let body = nodes::get(b, 1);
-    let m = t.marks;
-    let named0 = m.named;
-    let slots = m.slots;
-    let kept = m.kept;
-    let named = nodes::mark_if(true, body, named0);
-    let marks = rows::Marks {
-        named: named,
-        slots: slots,
-        kept: kept,
-    };
-    let d = t.defs;
-    let mut u = t;
-    u.counts[d] = count;
-    u.bodies[d] = body;
-    u.marks = marks;
-    u.defs = d + 1;
-    u
+    let b = &s[start..next];
+    if tag == 1 {
+        let r = rows::read_node(b, n, defs, counts, named, slots, kept);
+        let x = r.node;
+        return node_step(r.number, place, next, x);
+    }
+    let e = rows::root_number(tag, b, n, defs, named);
+    root_step(e, place, next, tag, nodes::get(b, 0), nodes::get(b, 1))
 }
 
 // The refusal at the end of the table, behind a main node: bytes are left, or a node has no name.
-fn end_number(main: u8, left: usize, n: usize, m: rows::Marks) -> u32
+fn end_number(left: usize, n: usize, named: &[bool; 256]) -> u32
     requires { ⌜ n ≤ 256 ⌝ }
-    ensures { λ r. ⌜ r ≡ endNumber main left n m ⌝ }
+    ensures { λ r. ⌜ r ≡ endNumber left n (now (named .entry)) ⌝ }
 {
     if left != 0 {
         return 6;
     }
-    let named = m.named;
-    let all = nodes::mark_if(true, main, named);
-    if nodes::any_unmarked(all, n) {
+    if nodes::any_unmarked(named, n) {
         return 6;
     }
     0
 }
 
-// The table that ends with its main node; left: how many bytes follow that.
-fn finish(main: u8, left: usize, t: Table) -> Outcome
-    requires { ⌜ t .n ≤ 256 ⌝ }
-    ensures { λ r. ⌜ r ≡ finished t main left ⌝ }
+// The table of these.
+fn hold(
+    nodes: [nodes::Node; 256],
+    counts: [u8; 256],
+    bodies: [u8; 256],
+    n: usize,
+    defs: usize,
+    main: u8,
+) -> Table
+    ensures { λ r. ⌜ r ≡ tableIn nodes counts bodies n defs main ⌝ }
 {
-    let n = t.n;
-    let m = t.marks;
-    let e = end_number(main, left, n, m);
-    let mut u = t;
-    u.main = main;
-    Outcome {
-        number: e,
-        place: 0,
-        table: u,
+    Table {
+        nodes: nodes,
+        counts: counts,
+        bodies: bodies,
+        n: n,
+        defs: defs,
+        main: main,
     }
 }
 
-// A field that is not refused, and is no main node, taken into the table.
-fn add_field(tag: u8, b: &[u8], t: Table) -> Table
-    requires { ⌜ numberIn t tag (now b) ≡ 0 ⌝ }
-    requires { ⌜ (tag ≡ 3 → ⊥) ⌝ }
-    ensures { λ r. ⌜ r ≡ added t tag (now (b .entry)) ⌝ }
+// A refusal at its place.
+fn refuse(number: u32, place: usize) -> Outcome
+    ensures { λ r. ⌜ r ≡ refusal number place ⌝ }
 {
-    if tag == 2 {
-        return add_definition(b, t);
+    let none = nodes::none();
+    Outcome {
+        number: number,
+        place: place,
+        table: hold([none; 256], [0; 256], [0; 256], 0, 0, 0),
     }
-    add_node(b, t)
 }
 
 // The program table that s holds, or its refusal.
 pub fn load(s: &[u8]) -> Outcome
     ensures { λ r. ⌜ Loads (now (s .entry)) r ⌝ }
 {
-    let mut t = empty();
+    let none = nodes::none();
+    let mut nodes = [none; 256];
+    let mut counts = [0; 256];
+    let mut bodies = [0; 256];
+    let mut named = [false; 256];
+    let mut slots = [false; 256];
+    let mut kept = [false; 256];
+    let mut n: usize = 0;
+    let mut defs: usize = 0;
     let mut at: usize = 0;
-    let mut fields: usize = 0;
     while at < s.len() {
-        let f = reader::read_field(s, at);
-        let reader::Field::Whole {
-            tag,
-            start,
-            len: _,
-            next,
-        } = f
-        else {
-            return refuse(1, fields, t);
-        };
-        let b = &s[start..next];
-        let e = number_in(tag, b, t);
-        if e != 0 {
-            return refuse(e, fields, t);
+        let f = read(s, at, n, defs, &counts, &mut named, &mut slots, &mut kept);
+        if f.number != 0 {
+            return refuse(f.number, f.place);
         }
-        if tag == 3 {
-            return finish(nodes::get(b, 0), s.len() - next, t);
+        at = f.next;
+        if f.tag == 3 {
+            let e = end_number(s.len() - at, n, &named);
+            let t = hold(nodes, counts, bodies, n, defs, f.first);
+            return Outcome {
+                number: e,
+                place: 0,
+                table: t,
+            };
         }
-        t = add_field(tag, b, t);
-        at = next;
-        fields += 1;
+        if f.tag == 2 {
+            counts[defs] = f.first;
+            bodies[defs] = f.second;
+            defs += 1;
+            continue;
+        }
+        let x = f.node;
+        nodes[n] = x;
+        n += 1;
     }
-    refuse(6, 0, t)
+    refuse(6, 0)
 }

@@ -1,3 +1,5 @@
+pub mod Leaves
+pub mod Digits
 pub mod Bits
 pub mod Trees
 pub mod Notes

@@ -2,22 +2,22 @@
 use mathlib.Core.Path.{_≡_, refl, sym, ap, subst, _∙_}
 use mathlib.Core.Bool.{Bool, true, false, cond, _||_, or-assoc, or-false, true≢false}
 use mathlib.Core.List.{List, [], _∷_, _++_, append-nil}
-use Prim.Native.Nat.{ℕ, _+_, _^_, _<_}
+use Prim.Native.Nat.{ℕ, _+_, _^_, _<_, _≤_}
 use native.Mathlib.Omega.{arith}
-use lib.ListN.{length, getD, set, length-set}
+use lib.ListN.{length, getD, set, replicate, length-set, length-replicate, getD-replicate, List·getD-eq-default}
 use lib.Seq.{getD-set-same, getD-set-other}
 use lib.Dec.{eqb, ltb}
-use borrow.Author.Count.{below-more}
-use borrow.Author.Tests.{eqb-true, ltb-true}
+use borrow.Author.Count.{below-none, below-more}
+use borrow.Author.Tests.{eqb-true, ltb-true, ltb-false}
 use Rattle.program.specs.Table.{among}
 use Rattle.program.specs.Tree.{Expr, nothing, spatial}
 use Rattle.round.specs.Round.{reps}
 use Rattle.words.specs.Word.{form, item, word}
 use Rattle.words.specs.Trees.{treeAt}
-use Rattle.masks.specs.Formed.{nodes, width, operand, part, Formed}
+use Rattle.masks.specs.Formed.{nodes, width, operand, part, Formed, Empty}
 use Rattle.masks.specs.Masks.{hasBit, Mask, Masks, ownMask, hasBody, bodyMask, partMask, maskOf, Spatials, ownSpatial, partSpatial, spatialOf}
 use Rattle.masks.proofs.Bits.{no-bit, power-bit, or-bit}
-use Rattle.masks.proofs.Trees.{View, is-0, is-1, is-2, is-3, is-4, is-5, is-6, is-7, is-8, is-9, is-10, is-16, is-17, is-18, is-19, view}
+use Rattle.masks.proofs.Trees.{View, is-0, is-1, is-2, is-3, is-4, is-5, is-6, is-7, is-8, is-9, is-10, is-16, is-17, is-18, is-19, view, tree-0}
 
 -- ---- what a node names can be looked up
 body-below : {ws : List ℕ} {n : ℕ} → Formed ws n → hasBody (word ws n) ≡ true → operand (word ws n) 4 < n
@@ -103,12 +103,45 @@ set-more P l i a d h all here =
     (λ k g. subst (P k) (sym (getD-set-other l i k a d (λ e. omega arith))) (all k g))
     (subst (P i) (sym (getD-set-same l i a d h)) here)
 
+-- what is not noted yet stays 0
+pub record Blank (us : List ℕ) (n : ℕ) : Type 0 where
+  pub rest : (k : ℕ) → n ≤ k → getD us k 0 ≡ 0
+
+pub blank-more : {us : List ℕ} {n : ℕ} (m : ℕ) → Blank us n → Blank (set us n m) (n + 1)
+blank-more {us} {n} m z = record { rest = λ k h. getD-set-other us n k m 0 (λ e. omega arith) ∙ z .rest k (omega arith) }
+
 pub masks-more : {ws us : List ℕ} {n m : ℕ} → n < nodes → Formed ws n → Masks ws us n → m ≡ maskOf us (word ws n) → Masks ws (set us n m) (n + 1)
 masks-more {ws} {us} {n} {m} h f s e =
     record {
       long = length-set us n m ∙ s .long;
       mask = set-more (Mask ws) us n m 0 (omega (arith, s .long)) (s .mask) (λ v l. rw e (mask-bit f s v l));
     }
+
+-- the masks before any is noted, and those of the words that are 0
+module _ {us : List ℕ} (e : us ≡ replicate nodes 0) where
+  all-there : length us ≡ nodes
+  all-there = ap length e ∙ length-replicate {A = ℕ} nodes 0
+
+  pub masks-none : {ws : List ℕ} → Masks ws us 0
+  masks-none = record { long = all-there; mask = below-none _ }
+
+  pub blank-all : Blank us 0
+  blank-all = record { rest = λ k h. go k (ltb k nodes) refl }
+    where
+      go : (k : ℕ) (b : Bool) → ltb k nodes ≡ b → getD us k 0 ≡ 0
+      go k true q = ap (λ (l : List ℕ). getD l k 0) e ∙ getD-replicate nodes k 0 0 (ltb-true k nodes q)
+      go k false q = List·getD-eq-default us 0 (subst (λ (m : ℕ). m ≤ k) (sym all-there) (ltb-false k nodes q))
+
+pub masks-rest : {ws us : List ℕ} {n : ℕ} → Empty ws n → Masks ws us n → Blank us n → Masks ws us nodes
+unfolding among reps
+masks-rest {ws} {us} {n} empty s blank = record { long = s .long; mask = λ k h. go k (ltb k n) refl }
+  where
+    go : (k : ℕ) (b : Bool) → ltb k n ≡ b → Mask ws k (getD us k 0)
+    go k true q = s .mask k (ltb-true k n q)
+    go k false q = λ v l.
+        let m : n ≤ k = ltb-false k n q in
+        let z : form (word ws k) ≡ 0 = rw (empty .rest k m) in
+        rw (blank .rest k m, tree-0 ws k z) (no-bit v)
 
 -- ---- a node is spatial by its form, by its body where it is a call, and by its operands
 abbrev calledTree : List ℕ → ℕ → Expr

@@ -1,9 +1,9 @@
 -- A table of words whose nodes name only nodes below themselves: what every pass over it requires. Internal: no public contract cites it. Definitions
 -- only: nothing is assumed.
 use mathlib.Core.Path.{_≡_}
-use mathlib.Core.Bool.{cond}
+use mathlib.Core.Bool.{Bool, cond, _||_}
 use mathlib.Core.List.{List, [], _∷_}
-use Prim.Native.Nat.{ℕ, _+_, _*_, _/_, _%_, _^_, _<_}
+use Prim.Native.Nat.{ℕ, _+_, _*_, _/_, _%_, _^_, _<_, _≤_}
 use lib.ListN.{getD}
 use lib.Dec.{eqb, ltb}
 use Rattle.program.specs.Tree.{Expr, nothing}
@@ -28,6 +28,10 @@ width w = cond (eqb (form w) 9) (count w) (getD widths (form w) 0)
 abbrev pub operand : ℕ → ℕ → ℕ
 operand w j = w / 2 ^ (9 + 10 * j) % 1024
 
+-- constant, parameter, variable, nbr-range
+unfoldable pub isLeaf : ℕ → Bool
+isLeaf w = ltb (form w) 3 || eqb (form w) 17
+
 -- node n has a known form and names nodes below n: operands by its width, and the body of a fold by definition or a call
 pub record Formed (ws : List ℕ) (n : ℕ) : Type 0 where
   pub known : form (word ws n) < 20
@@ -38,6 +42,10 @@ pub record Formed (ws : List ℕ) (n : ℕ) : Type 0 where
 
 pub record AllFormed (ws : List ℕ) : Type 0 where
   pub node : (n : ℕ) → n < nodes → Formed ws n
+
+-- no node from n on
+pub record Empty (ws : List ℕ) (n : ℕ) : Type 0 where
+  pub rest : (k : ℕ) → n ≤ k → word ws k ≡ 0
 
 -- the tree of operand j of a word, nothing where it has none
 abbrev pub part : List ℕ → ℕ → ℕ → Expr

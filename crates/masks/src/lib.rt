@@ -2,49 +2,19 @@
 // whether it is spatial. Also the parts of a word.
 ghost use mathlib.Core.Path.{_≡_};
 ghost use mathlib.Core.Bool.{true, false};
-ghost use Prim.Native.Nat.{_<_};
-ghost use lib.ListN.{length};
+ghost use Prim.Native.Nat.{_<_, _≤_};
+ghost use lib.ListN.{length, replicate};
 ghost use Rattle.words.specs.Word.{form, item, word};
-ghost use Rattle.masks.specs.Formed.{nodes, width, operand as operandAt, Formed, AllFormed};
+ghost use Rattle.masks.specs.Formed.{nodes, width, operand as operandAt, isLeaf, Formed, AllFormed, Empty};
 ghost use Rattle.masks.specs.Masks.{Masks, ownMask, hasBody, bodyMask, partMask, maskOf, Spatials, ownSpatial, bodySpatial, partSpatial, spatialOf};
 
 const NODES: usize = 256;
 
-// How many operands a form has, but for a call, whose count says it.
-const WIDTHS: [u8; 32] = [
-    0,
-    0,
-    0,
-    2,
-    1,
-    2,
-    3,
-    3,
-    2,
-    0,
-    2,
-    0,
-    0,
-    0,
-    0,
-    0,
-    1,
-    0,
-    3,
-    2,
-    0,
-    0,
-    0,
-    0,
-    0,
-    0,
-    0,
-    0,
-    0,
-    0,
-    0,
-    0,
-];
+// How many operands a form has, two bits each, form 0 lowest; but for a call, whose count says it.
+const WIDTHS: u64 = 0xb10022f980;
+
+// The forms that name no other node, a bit each.
+const LEAVES: u32 = 0x20007;
 
 pub fn form_of(w: u64) -> u8
     ensures { λ r. ⌜ r ≡ form w ⌝ }
@@ -65,7 +35,7 @@ pub fn width_of(w: u64) -> u8
     if form == 9 {
         return (w / 576460752303423488 % 8) as u8;
     }
-    WIDTHS[form as usize]
+    ((WIDTHS >> (2 * (form as u32))) % 4) as u8
 }
 
 // Operand j, from 0; 4 is the body.
@@ -74,6 +44,13 @@ pub fn operand(w: u64, j: u32) -> usize
     ensures { λ r. ⌜ r ≡ operandAt w j ⌝ }
 {
     ((w >> (9 + 10 * j)) % 1024) as usize
+}
+
+// Whether a node names no other, by its form: constant, parameter, variable, nbr-range.
+pub fn leaf(w: u64) -> bool
+    ensures { λ r. ⌜ r ≡ isLeaf w ⌝ }
+{
+    (LEAVES >> form_of(w)) % 2 == 1
 }
 
 // The variable of a rep.
@@ -123,18 +100,29 @@ fn mask_of(ws: &[u64; NODES], us: &[u16; NODES], n: usize) -> u16
     ensures { λ r. ⌜ r ≡ maskOf (now (us .entry)) (word (now (ws .entry)) n) ⌝ }
 {
     let w = ws[n];
+    if leaf(w) {
+        return 0;
+    }
     let x = part_mask(us, w, 2) | part_mask(us, w, 3);
     let x = part_mask(us, w, 0) | (part_mask(us, w, 1) | x);
     own_mask(w) | (body_mask(us, w) | x)
 }
 
-// The variables of the reps under each node, in called definitions too.
-pub fn make_masks(ws: &[u64; NODES], us: &mut [u16; NODES])
-    requires { ⌜ AllFormed (now ws) × (length (now us) ≡ nodes) ⌝ }
+fn clear(us: &mut [u16; NODES])
+    requires { ⌜ length (now us) ≡ nodes ⌝ }
+    ensures { λ r. ⌜ now (us .exit) ≡ replicate nodes 0 ⌝ }
+{
+    *us = [0; NODES];
+}
+
+// The variables of the reps under each node, in called definitions too. The words from count on are 0.
+pub fn make_masks(ws: &[u64; NODES], us: &mut [u16; NODES], count: usize)
+    requires { ⌜ AllFormed (now ws) × (length (now us) ≡ nodes) × (count ≤ nodes) × Empty (now ws) count ⌝ }
     ensures { λ r. ⌜ Masks (now (ws .entry)) (now (us .exit)) nodes ⌝ }
 {
+    clear(us);
     let mut n = 0;
-    while n < NODES {
+    while n < count {
         us[n] = mask_of(ws, us, n);
         n += 1;
     }
@@ -197,13 +185,13 @@ fn spatial_of(ws: &[u64; NODES], sp: &[bool; NODES], n: usize) -> bool
     part_spatial(sp, w, 3)
 }
 
-// Whether each node is spatial.
-pub fn make_spatial(ws: &[u64; NODES], sp: &mut [bool; NODES])
-    requires { ⌜ AllFormed (now ws) × (length (now sp) ≡ nodes) ⌝ }
-    ensures { λ r. ⌜ Spatials (now (ws .entry)) (now (sp .exit)) nodes ⌝ }
+// Whether each node below count is spatial.
+pub fn make_spatial(ws: &[u64; NODES], sp: &mut [bool; NODES], count: usize)
+    requires { ⌜ AllFormed (now ws) × (length (now sp) ≡ nodes) × (count ≤ nodes) ⌝ }
+    ensures { λ r. ⌜ Spatials (now (ws .entry)) (now (sp .exit)) count ⌝ }
 {
     let mut n = 0;
-    while n < NODES {
+    while n < count {
         sp[n] = spatial_of(ws, sp, n);
         n += 1;
     }

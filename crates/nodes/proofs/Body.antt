@@ -9,13 +9,22 @@ use lib.Dec.{eqb}
 use Rattle.program.specs.Table as program
 use Rattle.program.specs.Table.{Item, keeps, slot, child, definition, items, itemsOf, valuesIn, outside, picked, code, numbers}
 use Rattle.program.proofs.Items.{same-items, length-values}
-use Rattle.nodes.specs.Values.{nodeOf}
+use Rattle.nodes.specs.Values.{childrenOf, nodeOf}
 use Rattle.nodes.specs.Body.{leadOf, widthOf, kidsOf, itemOf, constantOf, inside, made}
 use Rattle.nodes.proofs.Items.{first, head, items-are, width-is, values-are, lead-below, first-values, first-outside, first-child, first-keeps, first-slot, first-definition, head-length, head-is, picked-append, outside-append, children-inside, children-picked, others-picked}
 
 -- the node that program's definitions make of a body
 abbrev node : ℕ → ℕ → List ℕ → program.Node
 node kind count s = record { kind = kind; values = valuesIn (itemsOf kind count) s }
+
+-- at most four numbers
+pub four : (k : ℕ) (ks : List ℕ) → k ≤ 4 → length ks ≡ k → take k (getD ks 0 0 ∷ getD ks 1 0 ∷ getD ks 2 0 ∷ getD ks 3 0 ∷ []) ≡ ks
+four k [] h e = let z : k ≡ 0 = omega arith in rw z
+four k (a ∷ []) h e = let z : k ≡ 1 = omega arith in rw z
+four k (a ∷ b ∷ []) h e = let z : k ≡ 2 = omega arith in rw z
+four k (a ∷ b ∷ c ∷ []) h e = let z : k ≡ 3 = omega arith in rw z
+four k (a ∷ b ∷ c ∷ d ∷ []) h e = let z : k ≡ 4 = omega arith in rw z
+four k (a ∷ b ∷ c ∷ d ∷ f ∷ ks) h e = absurd (omega arith)
 
 module _ (kind count : ℕ) (s : List ℕ) (known : kind < 13) (right : length s ≡ widthOf kind + kidsOf kind count) where
   abbrev l : ℕ
@@ -81,11 +90,7 @@ module _ (kind count : ℕ) (s : List ℕ) (known : kind < 13) (right : length s
   node-made h =
       let e : take (kidsOf kind count) (getD ks 0 0 ∷ getD ks 1 0 ∷ getD ks 2 0 ∷ getD ks 3 0 ∷ []) ≡ ks = four (kidsOf kind count) ks h kids-length in
       cc (node-values, head-is kind (itemOf l s) (constantOf l s))
-    where
-      four : (k : ℕ) (ks : List ℕ) → k ≤ 4 → length ks ≡ k → take k (getD ks 0 0 ∷ getD ks 1 0 ∷ getD ks 2 0 ∷ getD ks 3 0 ∷ []) ≡ ks
-      four k [] h e = let z : k ≡ 0 = omega arith in rw z
-      four k (a ∷ []) h e = let z : k ≡ 1 = omega arith in rw z
-      four k (a ∷ b ∷ []) h e = let z : k ≡ 2 = omega arith in rw z
-      four k (a ∷ b ∷ c ∷ []) h e = let z : k ≡ 3 = omega arith in rw z
-      four k (a ∷ b ∷ c ∷ d ∷ []) h e = let z : k ≡ 4 = omega arith in rw z
-      four k (a ∷ b ∷ c ∷ d ∷ f ∷ ks) h e = absurd (omega arith)
+
+  pub children-made : kidsOf kind count ≤ 4 → childrenOf (made kind l (kidsOf kind count) s ks) ≡ ks
+  unfolding made
+  children-made h = four (kidsOf kind count) ks h kids-length

@@ -1,5 +1,6 @@
 pub mod Pick
 pub mod Walk
 pub mod Items
+pub mod Kids
 pub mod Marks
 pub mod Body

@@ -7,10 +7,8 @@ use native.Mathlib.Omega.{arith}
 use native.Mathlib.Numerals.{add-one}
 use lib.ListN.{length, getD, take, drop, set, drop-of-length-le, length-drop, List·getD-eq-default}
 use lib.Seq.{drop-cons, take-all, drop-length}
-use borrow.Author.Tests.{le-leb, lt-leb}
-use Rattle.program.specs.Table.{beyond}
 use Rattle.nodes.specs.Body.{leads, widths, kidCounts, leadOf, widthOf, kidsOf, shapeOf}
-use Rattle.nodes.specs.Marked.{takenIn, marked, unmarked}
+use Rattle.nodes.specs.Marked.{marked, unmarked}
 
 -- the rest begins with the number at hand
 pub here : (ks : List ℕ) (i k : ℕ) → i < length ks → k ≡ getD ks i 0 → drop i ks ≡ k ∷ drop (i + 1) ks
@@ -18,36 +16,11 @@ here ks i k h e = drop-cons ks i 0 h ∙ cc (add-one i)
 
 module _ (ks : List ℕ) (i : ℕ) where
   module _ (h : length ks ≤ i) where
-    pub none-beyond : (n : ℕ) → beyond n ks ≡ beyond n (drop i ks) → false ≡ beyond n ks
-    unfolding beyond
-    none-beyond n e = sym (e ∙ ap (beyond n) (drop-of-length-le ks h))
-
-    pub none-taken : (m₀ m : List Bool) → takenIn m₀ ks ≡ takenIn m (drop i ks) → false ≡ takenIn m₀ ks
-    unfolding takenIn
-    none-taken m₀ m e = sym (e ∙ ap (takenIn m) (drop-of-length-le ks h))
-
     pub all-marked : (m₀ m : List Bool) → marked m₀ ks ≡ marked m (drop i ks) → m ≡ marked m₀ ks
     unfolding marked
     all-marked m₀ m e = sym (e ∙ ap (marked m) (drop-of-length-le ks h))
 
   module _ (k : ℕ) (h : i < length ks) (q : k ≡ getD ks i 0) where
-    pub is-beyond : (n : ℕ) → beyond n ks ≡ beyond n (drop i ks) → n ≤ k → true ≡ beyond n ks
-    unfolding beyond
-    is-beyond n e l = sym (e ∙ ap (beyond n) (here ks i k h q) ∙ rw (le-leb n k l))
-
-    pub not-beyond : (n : ℕ) → beyond n ks ≡ beyond n (drop i ks) → k < n → beyond n ks ≡ beyond n (drop (i + 1) ks)
-    unfolding beyond
-    not-beyond n e l = e ∙ ap (beyond n) (here ks i k h q) ∙ rw (lt-leb n k l)
-
-    pub is-taken : (m₀ m : List Bool) → takenIn m₀ ks ≡ takenIn m (drop i ks) → getD m k false ≡ true → true ≡ takenIn m₀ ks
-    unfolding takenIn
-    is-taken m₀ m e t = sym (e ∙ ap (takenIn m) (here ks i k h q) ∙ rw t)
-
-    pub not-taken : (m₀ m : List Bool) → takenIn m₀ ks ≡ takenIn m (drop i ks) → getD m k false ≡ false
-        → takenIn m₀ ks ≡ takenIn (set m k true) (drop (i + 1) ks)
-    unfolding takenIn
-    not-taken m₀ m e t = e ∙ ap (takenIn m) (here ks i k h q) ∙ rw t
-
     pub mark-next : (m₀ m : List Bool) → marked m₀ ks ≡ marked m (drop i ks) → marked m₀ ks ≡ marked (set m k true) (drop (i + 1) ks)
     unfolding marked
     mark-next m₀ m e = e ∙ ap (marked m) (here ks i k h q)

@@ -2,7 +2,7 @@
 use mathlib.Core.Bool.{Bool, true, false, not, cond}
 use mathlib.Core.List.{List, [], _∷_}
 use Prim.Native.Nat.{ℕ, _+_, _*_}
-use lib.ListN.{getD}
+use lib.ListN.{getD, drop}
 use lib.Dec.{eqb, ltb}
 use Rattle.nodes.specs.declared.Node.{Node}
 use Rattle.nodes.specs.declared.Shape.{Shape}
@@ -25,6 +25,9 @@ widthOf kind = getD widths kind 0
 
 abbrev pub kidsOf : ℕ → ℕ → ℕ
 kidsOf kind count = getD (kidCounts count) kind 0
+
+abbrev pub noNode : Node
+noNode = record { kind = 0; item = 0; kids = 0; a = 0; b = 0; c = 0; d = 0; constant = 0 }
 
 unfoldable pub shapeOf : ℕ → ℕ → Shape
 shapeOf kind count = record { lead = leadOf kind; width = widthOf kind; kids = kidsOf kind count }
@@ -59,3 +62,7 @@ made kind lead kids s ks =
       d = getD ks 3 0;
       constant = constantOf lead s;
     }
+
+-- the node of a kind, from what follows the kind
+unfoldable pub nodeIn : ℕ → ℕ → List ℕ → Node
+nodeIn kind count s = made kind (leadOf kind) (kidsOf kind count) s (drop (widthOf kind) s)

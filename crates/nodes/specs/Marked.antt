@@ -1,8 +1,9 @@
 -- Marks of numbers that are taken, near the code. Internal: `proofs/Marks.antt` proves that they say what program's lists of numbers say.
-use mathlib.Core.Bool.{Bool, true, false, not, cond, _||_}
+use mathlib.Core.Path.{_≡_}
+use mathlib.Core.Bool.{Bool, true, false, not, cond, _&&_, _||_}
 use mathlib.Core.List.{List, [], _∷_}
 use Prim.Native.Nat.{ℕ, zero, suc}
-use lib.ListN.{getD, set}
+use lib.ListN.{length, getD, set}
 
 -- some number is marked or stands twice
 unfoldable pub takenIn : List Bool → List ℕ → Bool
@@ -20,3 +21,15 @@ markIf on k m = cond on (set m k true) m
 unfoldable pub unmarked : ℕ → List Bool → Bool
 unmarked zero m = false
 unmarked (suc k) m = not (getD m k false) || unmarked k m
+
+-- a number k that is there is looked for and marked: r says whether it was marked, and m′ are the marks where it was not
+pub record Takes (there : Bool) (k : ℕ) (m : List Bool) (r : Bool) (m′ : List Bool) : Type 0 where
+  pub was : r ≡ (there && getD m k false)
+  pub marks : r ≡ false → m′ ≡ markIf there k m
+  pub long : length m′ ≡ 256
+
+-- the same of numbers one after the other
+pub record TakesAll (ks : List ℕ) (m : List Bool) (r : Bool) (m′ : List Bool) : Type 0 where
+  pub was : r ≡ takenIn m ks
+  pub marks : r ≡ false → m′ ≡ marked m ks
+  pub long : length m′ ≡ 256

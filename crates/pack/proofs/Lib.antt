@@ -6,3 +6,4 @@ pub mod Bodies
 pub mod Looks
 pub mod Sorts
 pub mod Pass
+pub mod Columns

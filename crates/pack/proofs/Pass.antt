@@ -18,10 +18,10 @@ use Rattle.words.specs.Trees.{at, made, treeAt}
 use Rattle.masks.specs.Formed.{nodes, widths, width, Formed, AllFormed}
 use Rattle.masks.proofs.Trees.{tree-0, formed}
 use Rattle.nodes.specs.Agrees.{Agree}
-use Rattle.nodes.specs.Body.{leadOf, kidsOf}
+use Rattle.nodes.specs.Body.{noNode, leadOf, kidsOf}
 use Rattle.nodes.specs.Values.{nodeOf}
 use Rattle.load.specs.declared.Table.{Table}
-use Rattle.load.specs.Loads.{tableOf, noNode, nodeAt, GoodNode, Good}
+use Rattle.load.specs.Loads.{tableOf, nodeAt, GoodNode, Good}
 use Rattle.pack.specs.declared.Flags.{Flags}
 use Rattle.pack.specs.Parts.{formBy, itemBy, firstBad, kid, IsParts, Fits, IsWord}
 use Rattle.pack.specs.Sorts.{partField, flagsIn, brokenBy}

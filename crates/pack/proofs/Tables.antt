@@ -6,9 +6,10 @@ use native.Mathlib.Omega.{arith}
 use lib.ListN.{length, getD, take, length-take, length-map, List·getD-map}
 use lib.Seq.{getD-take}
 use Rattle.program.specs.Table.{noDefinition, bodies}
+use Rattle.nodes.specs.Body.{noNode}
 use Rattle.nodes.specs.Values.{nodeOf}
 use Rattle.load.specs.declared.Table.{Table}
-use Rattle.load.specs.Loads.{paired, tableOf, noNode, nodeAt, Good}
+use Rattle.load.specs.Loads.{paired, tableOf, nodeAt, Good}
 
 paired-body : (cs bs : List ℕ) (d : ℕ) → length cs ≡ length bs → d < length bs → getD (paired cs bs) d noDefinition .body ≡ getD bs d 0
 unfolding paired

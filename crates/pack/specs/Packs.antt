@@ -4,7 +4,7 @@ use mathlib.Core.Bool.{cond}
 use mathlib.Core.List.{List}
 use mathlib.Core.Option.{Option, none, some}
 use Prim.Native.Nat.{ℕ, _<_, _≤_}
-use lib.ListN.{length}
+use lib.ListN.{length, getD}
 use lib.Dec.{leb, ltb}
 use Rattle.program.specs.Tree.{tree, isField}
 use Rattle.program.specs.Check.{lowest, offending, sortOffends}
@@ -12,12 +12,24 @@ use Rattle.words.specs.Word.{form, item, word}
 use Rattle.words.specs.Trees.{treeAt}
 use Rattle.masks.specs.Formed.{nodes, AllFormed}
 use Rattle.load.specs.declared.Table.{Table}
-use Rattle.load.specs.Loads.{tableOf}
+use Rattle.nodes.specs.declared.Node.{Node}
+use Rattle.load.specs.Loads.{tableOf, nodeAt}
 use Rattle.pack.specs.Sorted.{Sorted}
 
 -- a node's number as the answer of a search, one that no node has where none is meant
 abbrev pub found : ℕ → Option ℕ
 found r = cond (ltb r nodes) (some r) none
+
+abbrev pub kindOf : Node → ℕ
+kindOf x = x .kind
+
+abbrev pub itemOf : Node → ℕ
+itemOf x = x .item
+
+-- xs has what f takes of each node below n
+pub record Column (f : Node → ℕ) (t : Table) (xs : List ℕ) (n : ℕ) : Type 0 where
+  pub long : length xs ≡ nodes
+  pub each : (k : ℕ) → k < n → getD xs k 0 ≡ f (nodeAt t k)
 
 pub record Packs (t : Table) (ws : List ℕ) (r : ℕ) : Type 0 where
   pub long : length ws ≡ nodes

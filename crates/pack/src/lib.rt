@@ -10,7 +10,7 @@ ghost use Rattle.nodes.specs.Agrees.{Agree};
 ghost use Rattle.load.specs.Loads.{Good};
 ghost use Rattle.pack.specs.Parts.{differs, firstBad, kid, IsConstant, IsParts, IsWord, Fits};
 ghost use Rattle.pack.specs.Sorts.{partField, flagsIn, brokenBy};
-ghost use Rattle.pack.specs.Packs.{Packs};
+ghost use Rattle.pack.specs.Packs.{kindOf, itemOf, Column, Packs};
 
 const NODES: usize = 256;
 
@@ -210,10 +210,15 @@ fn clear(ws: &mut [u64; NODES])
     *ws = [0; NODES];
 }
 
-// The words of a table, and the lowest node whose sort is broken.
-pub fn pack(t: load::Table, ws: &mut [u64; NODES]) -> u16
-    requires { ⌜ Good t × (length (now ws) ≡ nodes) ⌝ }
-    ensures { λ r. ⌜ Packs t (now (ws .exit)) r ⌝ }
+// The words, kinds and items of a table, and the lowest node whose sort is broken.
+pub fn pack(
+    t: load::Table,
+    ws: &mut [u64; NODES],
+    kinds: &mut [u8; NODES],
+    items: &mut [u8; NODES],
+) -> u16
+    requires { ⌜ Good t × (length (now ws) ≡ nodes) × (length (now kinds) ≡ nodes) × (length (now items) ≡ nodes) ⌝ }
+    ensures { λ r. ⌜ Packs t (now (ws .exit)) r × Column kindOf t (now (kinds .exit)) (t .n) × Column itemOf t (now (items .exit)) (t .n) ⌝ }
 {
     clear(ws);
     let bodies = t.bodies;
@@ -227,6 +232,8 @@ pub fn pack(t: load::Table, ws: &mut [u64; NODES]) -> u16
         let w = word_of(x, bodies[x.item as usize], either(s.a, s.b), s.b);
         let bad = offends(x.kind, s, marks[i], masks::form_of(w));
         ws[i] = w;
+        kinds[i] = x.kind;
+        items[i] = x.item;
         r = first_bad(r, i as u16, bad);
         i += 1;
     }

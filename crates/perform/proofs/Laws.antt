@@ -19,7 +19,7 @@ use Rattle.reader.specs.declared.Field.the-variants.{Whole, Cut}
 use Rattle.reader.specs.Field.{fieldAt}
 use Rattle.effects.specs.declared.Answer.{Answer}
 use Rattle.effects.specs.Does.{Does, Lit}
-use Rattle.effects.proofs.Stores.{nothing-yet, store-cons}
+use Rattle.network.proofs.Stores.{nothing-yet, store-cons}
 use Rattle.effects.proofs.Lit.{lit-kept}
 use Rattle.fire.specs.Fires.{Fires}
 use Rattle.lists.specs.declared.Event as coded

@@ -23,6 +23,7 @@ use Rattle.program.proofs.Sorting.{Sorted, field-of, unbroken, as-numbe
 use Rattle.program.proofs.Scoping.{read-scoped, scoped-read, bodies-scoped, scoped-bodies}
 use Rattle.program.proofs.Offending.{Passes, rows-pass, passes-rows}
 use Rattle.program.proofs.Growing.{tree-sorts}
+use Rattle.program.proofs.Spread.{spatial-rules, rules-spatial, not-spatial, plain}
 use Rattle.program.proofs.Uses.{called-once, fold-plain, no-offence}
 
 body-mem : {d : Definition} {ds : List Definition} → List·Memᴰ d ds → List·Memᴰ (d .body) (bodies ds)
@@ -51,7 +52,9 @@ module _ (ps : List Part) (main : ℕ) (m : Meets ps main) where
         (notBoth (among n (main ∷ bodies (definitionsOf ps))) _ (λ a. number-of (List·Memᴰ·cases-cons (among-mem n _ a))));
     mainRead = scoped-read 0 (m .mainScope);
     bodiesRead = scoped-bodies (tableOf ps) (definitionsOf ps) (m .bodyScopes);
-    uses = no-offence (tableOf ps) (m .calledOnce) (m .folds);
+    uses =
+        no-offence (tableOf ps) (λ k n d h l a b s. m .calledOnce k n d h l a b (spatial-rules _ s))
+        (λ n d h f. (not-spatial _ (m .folds n d h f .0), m .folds n d h f .1));
     cheap = m .cheap;
   }
 
@@ -101,8 +104,8 @@ module _ (ps : List Part) (main : ℕ) (st : Steps (tableOf []) ps main) (p : Pa
     bodySorts = λ d i. as-number _ (sorted (d .body)) (body-at d i);
     mainScope = read-scoped 0 [] (tree (tableOf ps) main) (p .mainRead);
     bodyScopes = λ d i. bodies-scoped (tableOf ps) (p .bodiesRead) i;
-    calledOnce = called-once (tableOf ps) (p .uses);
-    folds = λ n d h. fold-plain (tableOf ps) n d (p .uses n h);
+    calledOnce = λ k n d h l a b s. called-once (tableOf ps) (p .uses) k n d h l a b (rules-spatial s);
+    folds = λ n d h f. let q = fold-plain (tableOf ps) n d (p .uses n h) f in (plain (q .0), q .1);
     cheap = p .cheap;
   }
 

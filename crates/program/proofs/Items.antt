@@ -7,12 +7,12 @@ use Prim.Native.Nat.{ℕ, zero, suc, _/_, _%_, _<_}
 use native.Mathlib.Omega.{arith}
 use lib.ListN.{length, take, drop, replicate, length-append, length-drop, take-append-drop, List·getD-append}
 use lib.Seq.{take-append-seam, drop-append-seam, length-take-le}
-use lib.Dec.{eqb}
-use borrow.Author.Tests.{eqb-true, eqb-false, not-false}
+use lib.Dec.{eqb, ltb}
+use borrow.Author.Tests.{eqb-true, eqb-false, not-true, not-false, ltb-true, lt-ltb, ne-eqb}
 use Rattle.wire.specs.Wire.{bigFrom, big}
 use Rattle.program.specs.Table.{Item, constant, operator, parameter, variable, keeps, slot, child, definition, kinds, itemsOf, width, size, valuesIn, inRange, outside}
-use Rattle.program.specs.Conditions.{Bytes, itemBytes, itemsBytes, InRange, none, more}
-use Rattle.program.proofs.Tests.{either, neither}
+use Rattle.program.specs.Conditions.{Bytes, itemBytes, itemsBytes, Ranged, InRange, none, more}
+use Rattle.program.proofs.Tests.{either, both, neither}
 
 -- every item but the constant is one byte
 one-byte : (i : Item) → (i ≡ constant) ⊎ ((width i ≡ 1) × ((v : ℕ) → itemBytes i v ≡ v ∷ []))
@@ -113,17 +113,38 @@ unfolding valuesIn
 length-values [] s = refl
 length-values (i ∷ is) s = ap suc (length-values is (drop (width i) s))
 
+-- the test of a range holds exactly in the range
+in-range : (i : Item) (v : ℕ) → inRange i v ≡ true → Ranged i v
+in-range constant v q = eqb-false v 0x80000000 (not-true (eqb v 0x80000000) q)
+in-range operator v q = ltb-true v 9 q
+in-range parameter v q = ltb-true v 4 q
+in-range variable v q = ltb-true v 16 q
+in-range keeps v q = ltb-true v 16 q
+in-range slot v q = let b = both (ltb 0 v) (ltb v 16) q in (ltb-true 0 v (b .0), ltb-true v 16 (b .1))
+in-range child v q = tt
+in-range definition v q = tt
+
+range-in : (i : Item) (v : ℕ) → Ranged i v → inRange i v ≡ true
+range-in constant v h = rw (ne-eqb v 0x80000000 h) refl
+range-in operator v h = lt-ltb v 9 h
+range-in parameter v h = lt-ltb v 4 h
+range-in variable v h = lt-ltb v 16 h
+range-in keeps v h = lt-ltb v 16 h
+range-in slot v h = rw (lt-ltb 0 v (h .0), lt-ltb v 16 (h .1)) refl
+range-in child v h = refl
+range-in definition v h = refl
+
 pub inside-range : (is : List Item) (s : List ℕ) → outside is (valuesIn is s) ≡ false → InRange is (valuesIn is s)
 unfolding valuesIn outside
 inside-range [] s e = none
 inside-range (i ∷ is) s e =
     let v : ℕ = big (take (width i) s) in
-    more (not-false (inRange i v) (either (not (inRange i v)) _ e .0)) (inside-range is (drop (width i) s) (either (not (inRange i v)) _ e .1))
+    more (in-range i v (not-false (inRange i v) (either (not (inRange i v)) _ e .0))) (inside-range is (drop (width i) s) (either (not (inRange i v)) _ e .1))
 
 pub range-inside : {is : List Item} {vs : List ℕ} → InRange is vs → outside is vs ≡ false
 unfolding outside
 range-inside none = refl
-range-inside (more {i} {is} {v} {vs} h r) = neither {a = not (inRange i v)} (rw h) (range-inside r)
+range-inside (more {i} {is} {v} {vs} h r) = neither {a = not (inRange i v)} (rw (range-in i v h)) (range-inside r)
 
 -- only a call's items depend on the count
 pub same-items : (kind m n : ℕ) → kind < 13 → (kind ≡ 12 → m ≡ n) → itemsOf kind m ≡ itemsOf kind n

@@ -16,5 +16,6 @@ pub mod Offending
 pub mod Sorting
 pub mod Growing
 pub mod Scoping
+pub mod Spread
 pub mod Uses
 pub mod Exact

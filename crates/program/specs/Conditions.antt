@@ -6,11 +6,12 @@ use mathlib.Core.List.{List, [], _∷_, _++_, List·Memᴰ}
 use Prim.Native.Nat.{ℕ, zero, suc, _+_, _/_, _%_, _≤_, _<_}
 use lib.ListN.{length, getD}
 use lib.Dec.{eqb}
-use Rattle.program.specs.Table.{Item, constant, operator, parameter, variable, keeps, slot, child, definition, kindCount, inRange, items, Node, Definition, Table, numbers, allNumbers, named, definitionAt}
-use Rattle.program.specs.Tree.{Expr, tree, spatial, cost}
+use Rattle.program.specs.Table.{Item, constant, operator, parameter, variable, keeps, slot, child, definition, kindCount, items, Node, Definition, Table, numbers, allNumbers, named, definitionAt}
+use Rattle.program.specs.Tree.{Expr, tree, cost}
 use Rattle.program.specs.Check.{nodeAt}
 use Rattle.program.specs.Sorts.{Sort, aNumber, HasSort}
 use Rattle.program.specs.Scope.{Scoped}
+use Rattle.program.specs.Spatial.{Spatial}
 
 -- The table in the order of its fields. The main node is the last field and stands apart
 pub data Part : Type 0 where
@@ -63,10 +64,21 @@ unfoldable pub times : ℕ → List ℕ → ℕ
 times k [] = 0
 times k (n ∷ ns) = cond (eqb k n) (suc (times k ns)) (times k ns)
 
+-- the range of each item: "not the mark", "Operators 0–8", "parameter p (0–3)", "variable v (0–15)", "slot 1–15"; "node and definition numbers have none"
+abbrev pub Ranged : Item → ℕ → Type 0
+Ranged constant w = w ≡ 0x80000000 → ⊥
+Ranged operator o = o < 9
+Ranged parameter p = p < 4
+Ranged variable v = v < 16
+Ranged keeps v = v < 16
+Ranged slot i = (0 < i) × (i < 16)
+Ranged child k = Unit {0}
+Ranged definition d = Unit {0}
+
 -- each number stands for its item and is in its range
 pub data InRange : List Item → List ℕ → Type 0 where
   none : InRange [] []
-  more : {i : Item} {is : List Item} {v : ℕ} {vs : List ℕ} → inRange i v ≡ true → InRange is vs → InRange (i ∷ is) (v ∷ vs)
+  more : {i : Item} {is : List Item} {v : ℕ} {vs : List ℕ} → Ranged i v → InRange is vs → InRange (i ∷ is) (v ∷ vs)
 
 -- "A node or definition must be given before it is named": by a part that stands behind the table t
 abbrev pub Given : Table → Part → Type 0
@@ -111,9 +123,9 @@ pub record Meets (ps : List Part) (main : ℕ) : Type 0 where
   pub bodyScopes : (d : Definition) → List·Memᴰ d (definitionsOf ps) → Scoped (d .count) [] (tree (tableOf ps) (d .body))
   -- a spatial definition "may be called from one node and may not fold"
   pub calledOnce : (m n d : ℕ) → m < length (nodesOf ps) → n < length (nodesOf ps) → Calls (tableOf ps) m d → Calls (tableOf ps) n d
-      → spatial (tree (tableOf ps) (definitionAt (tableOf ps) d .body)) ≡ true → m ≡ n
+      → Spatial (tree (tableOf ps) (definitionAt (tableOf ps) d .body)) → m ≡ n
   pub folds : (n d : ℕ) → n < length (nodesOf ps) → FoldsBy (tableOf ps) n d
-      → (spatial (tree (tableOf ps) (definitionAt (tableOf ps) d .body)) ≡ false) × (definitionAt (tableOf ps) d .count ≡ 2)
+      → (Spatial (tree (tableOf ps) (definitionAt (tableOf ps) d .body)) → ⊥) × (definitionAt (tableOf ps) d .count ≡ 2)
   -- "Main may cost 1,000,000."
   pub cheap : cost (tree (tableOf ps) main) ≤ 1000000
 

@@ -4,3 +4,4 @@ pub mod Check
 pub mod Sorts
 pub mod Scope
 pub mod Conditions
+pub mod Spatial

@@ -17,7 +17,7 @@ use Rattle.network.specs.Cells.{write}
 use Rattle.event.specs.Event.{Event, fire, deliver, lose, link, signal, Entry, eventOf}
 use Rattle.event.specs.Step.{Plan, sensorsOf, digitSet, effect, plan, doEvent, step}
 use Rattle.reorder.specs.Clash.{clash, entriesClash}
-use Rattle.reorder.proofs.Flat.{store-one}
+use Rattle.network.proofs.Stores.{store-one}
 use Rattle.reorder.proofs.Digits.{digits-commute}
 use Rattle.reorder.proofs.Touched.{Fits, fits?, Touched, touched?, plan-chosen, Whole, stays, frame, local}
 use Rattle.reorder.proofs.Apart.{SameSensors, apart, sensors-inside, not-both, neither}
@@ -45,7 +45,7 @@ module _ (main : Expr) where
   signalled n a s v h = rw (plan-chosen, h)
 
   lit-network : (n : List ℤ) (a s v : ℕ) → Fits (signal a s v) → doEvent main n (signal a s v) .0 ≡ lit a s v n
-  lit-network n a s v h = ap (λ (p : Plan). write n (p .0)) (signalled n a s v h) ∙ store-one n (sensorsOf a) _
+  lit-network n a s v h = ap (λ (p : Plan). write n (p .0)) (signalled n a s v h) ∙ sym (store-one n (sensorsOf a) _)
 
   lit-answer : (n : List ℤ) (a s v : ℕ) → Fits (signal a s v) → doEvent main n (signal a s v) .1 ≡ (pos 0, pos 0)
   lit-answer n a s v h = ap (λ (p : Plan). p .1) (signalled n a s v h)

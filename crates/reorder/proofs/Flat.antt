@@ -1,37 +1,18 @@
 -- Rows read and stored: a cell outside of what is stored stays, and two lists that agree at a cell agree there after the same is stored.
-use mathlib.Core.Path.{_≡_, refl, ap, _∙_}
+use mathlib.Core.Path.{_≡_, refl, _∙_}
 use mathlib.Core.List.{List, [], _∷_}
 use Prim.Native.Nat.{ℕ, zero, suc, _+_, _≤_, _<_}
 use native.Mathlib.Omega.{arith}
-use lib.ListN.{length, getD, set, length-take, length-drop}
+use lib.ListN.{length, getD, length-take, length-drop}
 use lib.Seq.{ext-getD, getD-take, getD-drop}
 use Rattle.network.specs.Cells.{row, store, write}
+use Rattle.network.proofs.Stores.{length-store, store-out}
 
 -- c is one of the len cells from lo on
 abbrev pub Within : ℕ → ℕ → ℕ → Type 0
 Within lo len c = (lo ≤ c) × (c < lo + len)
 
 module _ {A : Type 0} where
-  pub length-store : (l : List A) (lo : ℕ) (vs : List A) → length (store l lo vs) ≡ length l
-  length-store [] lo vs = refl
-  length-store (x ∷ l) zero [] = refl
-  length-store (x ∷ l) zero (v ∷ vs) = ap suc (length-store l zero vs)
-  length-store (x ∷ l) (suc lo) vs = ap suc (length-store l lo vs)
-
-  pub store-one : (l : List A) (c : ℕ) (v : A) → store l c (v ∷ []) ≡ set l c v
-  store-one [] c v = refl
-  store-one (x ∷ []) zero v = refl
-  store-one (x ∷ y ∷ l) zero v = refl
-  store-one (x ∷ l) (suc c) v = ap (x ∷_) (store-one l c v)
-
-  store-out : (l : List A) (lo : ℕ) (vs : List A) (c : ℕ) (d : A) → ¬ Within lo (length vs) c → getD (store l lo vs) c d ≡ getD l c d
-  store-out [] lo vs c d h = refl
-  store-out (x ∷ l) zero [] c d h = refl
-  store-out (x ∷ l) zero (v ∷ vs) zero d h = absurd (h (omega arith))
-  store-out (x ∷ l) zero (v ∷ vs) (suc c) d h = store-out l zero vs c d (λ k. h (omega arith))
-  store-out (x ∷ l) (suc lo) vs zero d h = refl
-  store-out (x ∷ l) (suc lo) vs (suc c) d h = store-out l lo vs c d (λ k. h (omega arith))
-
   store-agree : (l m : List A) (lo : ℕ) (vs : List A) (c : ℕ) (d : A) → length l ≡ length m → getD l c d ≡ getD m c d
       → getD (store l lo vs) c d ≡ getD (store m lo vs) c d
   store-agree [] [] lo vs c d e h = h
@@ -54,7 +35,7 @@ module _ {A : Type 0} where
 
   pub write-out : (ws : List (ℕ × List A)) (l : List A) (c : ℕ) (d : A) → Outside c ws → getD (write l ws) c d ≡ getD l c d
   write-out [] l c d h = refl
-  write-out (w ∷ ws) l c d h = write-out ws (store l (w .0) (w .1)) c d (h .1) ∙ store-out l (w .0) (w .1) c d (h .0)
+  write-out (w ∷ ws) l c d h = write-out ws (store l (w .0) (w .1)) c d (h .1) ∙ store-out l (w .0) (w .1) c d (λ p q. h .0 (p, q))
 
   pub write-agree : (ws : List (ℕ × List A)) (l m : List A) (c : ℕ) (d : A) → length l ≡ length m → getD l c d ≡ getD m c d
       → getD (write l ws) c d ≡ getD (write m ws) c d

@@ -17,7 +17,8 @@ use Rattle.network.specs.Network.{blockSize, networkSize, base}
 use Rattle.round.specs.Round.{Outcome, done, fault, after, firedBy, fired, round}
 use Rattle.event.specs.Event.{Event, fire, deliver, lose, link, signal}
 use Rattle.event.specs.Step.{Plan, sensorsOf, heardFrom, pendingTo, block, outOfRange, toItself, nothingPending, refusal, effect, plan, doEvent}
-use Rattle.reorder.proofs.Flat.{Within, Outside, length-store, length-write, write-out, write-agree, row-agree, length-row}
+use Rattle.network.proofs.Stores.{length-store}
+use Rattle.reorder.proofs.Flat.{Within, Outside, length-write, write-out, write-agree, row-agree, length-row}
 
 abbrev pub Fits : Event → Type 0
 Fits e = outOfRange e ≡ false

@@ -1,3 +1,4 @@
 pub mod Tests
 pub mod Clear
+pub mod Takes
 pub mod Rows

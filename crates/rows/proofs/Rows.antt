@@ -2,12 +2,11 @@
 use mathlib.Core.Path.{_≡_, refl, sym, _∙_, ap}
 use mathlib.Core.Bool.{Bool, true, false, not, cond, _&&_, _||_, or-false, or-assoc, true≢false}
 use mathlib.Core.List.{List, [], _∷_}
-use mathlib.Core.Logic.{_⊎_, inl, inr}
 use Prim.Native.Nat.{ℕ, suc, _+_, _<_}
 use native.Mathlib.Omega.{arith}
 use lib.ListN.{length, getD, drop}
 use lib.Dec.{eqb, leb, ltb}
-use borrow.Author.Tests.{leb-false, ltb-true, eqb-true, eq-eqb, ne-eqb}
+use borrow.Author.Tests.{leb-false, eqb-true, eq-eqb, ne-eqb}
 use Rattle.program.specs.Table as program
 use Rattle.program.specs.Table.{child, slot, keeps, definition, itemsOf, size, outside, numbers, Table, firstOf, among, beyond, takenBy, allNumbers, definitionAt, nodeRows, definitionRows, mainRows, Entry, aNode, aDefinition, aMain, unknown, entryOf}
 use Rattle.program.proofs.Tests.{either}
@@ -16,8 +15,8 @@ use Rattle.nodes.specs.Marked.{takenIn}
 use Rattle.nodes.proofs.Items.{size-is, same-kids, in-ranges}
 use Rattle.nodes.proofs.Body.{node-outside, node-children, node-slots, node-keeps, node-definitions}
 use Rattle.nodes.proofs.Marks.{taken-is}
-use Rattle.rows.specs.declared.Marks.{Marks}
-use Rattle.rows.specs.Numbers.{orElse, callNumber, itemTaken, bodyNumber, nodeNumber, definitionNumber, mainNumber, fieldNumber}
+use Rattle.rows.specs.Marks.{Marks}
+use Rattle.rows.specs.Numbers.{orElse, callNumber, itemTaken, shapeNumber, bodyNumber, nodeNumber, definitionNumber, mainNumber, fieldNumber}
 use Rattle.rows.specs.Shows.{Shows}
 
 -- one row; a row whose test the code turns round; two rows of one number
@@ -45,6 +44,17 @@ call-rows true true d q f = refl
 call-rows true false true q f = rw (← q)
 call-rows true false false q f = rw (← q) (f (λ e. refl))
 
+-- the rows of a shape, and then those of a body
+shape-first : (a b d : Bool) (c x : ℕ) → orElse (cond a 2 (cond b 3 (orElse c (cond d 0 1)))) x ≡ cond a 2 (cond b 3 (orElse c (cond d x 1)))
+shape-first true b d c x = refl
+shape-first false true d c x = refl
+shape-first false false d c x = go (eqb c 0) refl d
+  where
+    go : (t : Bool) → eqb c 0 ≡ t → (d : Bool) → orElse (cond t (cond d 0 1) c) x ≡ cond t (cond d x 1) c
+    go true q true = refl
+    go true q false = refl
+    go false q d = rw q
+
 -- of a single number, where there is one
 one-beyond : (b : Bool) (n i : ℕ) → beyond n (cond b (i ∷ []) []) ≡ (b && leb n i)
 unfolding beyond
@@ -64,11 +74,9 @@ module _ (n defs : ℕ) (counts : List ℕ) (m : Marks) (t : Table) (shows : Sho
       rw (one-taken (eqb l 5) (allNumbers slot (t .nodes)) i, one-taken (eqb l 4) (allNumbers keeps (t .nodes)) i) (go (eqb l 5) (eqb l 4) refl refl)
     where
       go : (a b : Bool) → eqb l 5 ≡ a → eqb l 4 ≡ b
-          → cond a (getD (m .slots) i false) (cond b (getD (m .kept) i false) false) ≡ (a && among i (allNumbers slot (t .nodes)) || b && among i (allNumbers keeps (t .nodes)))
+          → (a && getD (m .slots) i false || b && getD (m .kept) i false) ≡ (a && among i (allNumbers slot (t .nodes)) || b && among i (allNumbers keeps (t .nodes)))
       go true true p q = let e : l ≡ 5 = eqb-true l 5 p in let f : l ≡ 4 = eqb-true l 4 q in absurd (omega arith)
-      go true false p q =
-          let s = in-ranges l i c h .slot (eqb-true l 5 p) in
-          shows .slots .each i (omega arith) ∙ sym (or-false (among i (allNumbers slot (t .nodes))))
+      go true false p q = let s = in-ranges l i c h .slot (eqb-true l 5 p) in ap (λ (b : Bool). b || false) (shows .slots .each i (omega arith))
       go false true p q = let s = in-ranges l i c h .keeps (eqb-true l 4 q) in shows .kept .each i (omega arith)
       go false false p q = refl
 
@@ -102,7 +110,7 @@ module _ (n defs : ℕ) (counts : List ℕ) (m : Marks) (t : Table) (shows : Sho
     abbrev count : ℕ
     count = definitionAt t (getD s 0 0) .count
 
-    body-rows : bodyNumber l s ks n defs m
+    body-rows : bodyNumber l (itemOf l s) (constantOf l s) ks n defs m
         ≡ cond (outside (itemsOf kind count) (x .values)) 3
         (cond (beyond (length (t .nodes)) (numbers child x) || beyond (length (t .definitions)) (numbers definition x)) 4
         (cond (takenBy (program.named t) (numbers child x) || takenBy (allNumbers slot (t .nodes)) (numbers slot x) || takenBy (allNumbers keeps (t .nodes)) (numbers keeps x)) 5 0))
@@ -123,15 +131,16 @@ module _ (n defs : ℕ) (counts : List ℕ) (m : Marks) (t : Table) (shows : Sho
       (λ q. shows .parameters (getD s 0 0) (leb-false defs (getD s 0 0) (f (eq-eqb kind 12 q))))
 
   pub node-rows : (kind : ℕ) (s : List ℕ) → nodeNumber kind s n defs (getD counts (getD s 0 0) 0) m ≡ firstOf (nodeRows t kind s)
-  unfolding nodeNumber callNumber firstOf
+  unfolding nodeNumber shapeNumber callNumber firstOf
   node-rows kind s =
-      row 2 (ap (leb 256) (shows .nodes))
+      shape-first (leb 256 n) (leb 13 kind) (eqb (length s) (widthOf kind + kidsOf kind (getD counts (getD s 0 0) 0))) (callNumber kind s defs) _
+      ∙ row 2 (ap (leb 256) (shows .nodes))
       (λ a. row 3 refl
       (λ b. call-rows (eqb kind 12) (eqb (length s) 0) (leb defs (getD s 0 0)) (ap (λ (d : ℕ). leb d (getD s 0 0)) (shows .definitions))
       (sized (leb-false 13 kind b))))
     where
       sized : kind < 13 → (eqb kind 12 ≡ true → leb defs (getD s 0 0) ≡ false)
-          → cond (eqb (length s) (widthOf kind + kidsOf kind (getD counts (getD s 0 0) 0))) (bodyNumber (leadOf kind) s (drop (widthOf kind) s) n defs m) 1
+          → cond (eqb (length s) (widthOf kind + kidsOf kind (getD counts (getD s 0 0) 0))) (bodyNumber (leadOf kind) (itemOf (leadOf kind) s) (constantOf (leadOf kind) s) (drop (widthOf kind) s) n defs m) 1
           ≡ firstOf (drop 4 (nodeRows t kind s))
       sized known f =
           let c = counted kind s known f in

@@ -3,14 +3,13 @@ use mathlib.Core.Path.{_≡_, refl, sym, _∙_}
 use mathlib.Core.Bool.{Bool, true, false}
 use mathlib.Core.List.{List}
 use Prim.Native.Nat.{ℕ, _+_, _≤_, _<_}
-use lib.ListN.{getD, drop}
+use lib.ListN.{getD, set}
 use lib.Dec.{eqb, leb, ltb}
 use borrow.Author.Tests.{le-leb, lt-leb, lt-ltb, le-ltb, eq-eqb, ne-eqb}
 use Rattle.nodes.specs.declared.Shape.{Shape}
-use Rattle.nodes.specs.Body.{leadOf, widthOf, kidsOf, shapeOf}
+use Rattle.nodes.specs.Body.{widthOf, kidsOf, shapeOf}
 use Rattle.nodes.proofs.Pick.{onTrue, onFalse}
-use Rattle.rows.specs.declared.Marks.{Marks}
-use Rattle.rows.specs.Numbers.{orElse, bodyNumber, nodeNumber}
+use Rattle.rows.specs.Numbers.{orElse}
 
 pub told : {b d : Bool} {t : Bool} → b ≡ d → b ≡ t → d ≡ t
 told e h = sym e ∙ h
@@ -30,6 +29,9 @@ within-as a {b} e h = rw e at (le-ltb a b h)
 pub mark-as : (m : List Bool) {b d : ℕ} {t : Bool} → b ≡ d → getD m b false ≡ t → getD m d false ≡ t
 mark-as m e h = rw e at h
 
+pub set-as : (m : List Bool) {b d : ℕ} {l : List Bool} → b ≡ d → l ≡ set m b true → l ≡ set m d true
+set-as m e h = rw e at h
+
 -- a number that stops, or not
 pub else-stop : {a c : ℕ} (b : ℕ) → c ≡ a → (c ≡ 0 → ⊥) → c ≡ orElse a b
 else-stop {a} {c} b e h = rw (← e) (onFalse b (ne-eqb c 0 h) refl)
@@ -45,13 +47,3 @@ wrong-size kind count sh e h = rw e at (ne-eqb _ (sh .width + sh .kids) h)
 pub right-size : (kind count : ℕ) {n : ℕ} (sh : Shape) → sh ≡ shapeOf kind count → n ≡ sh .width + sh .kids → eqb n (widthOf kind + kidsOf kind count) ≡ true
 unfolding shapeOf
 right-size kind count sh e h = rw e at (eq-eqb _ (sh .width + sh .kids) h)
-
-module _ {r : ℕ} (n defs : ℕ) (m : Marks) where
-  pub body-as : (kind count : ℕ) (s ks : List ℕ) (sh : Shape) → sh ≡ shapeOf kind count → ks ≡ drop (sh .width) s
-      → r ≡ bodyNumber (sh .lead) s ks n defs m → r ≡ bodyNumber (leadOf kind) s (drop (widthOf kind) s) n defs m
-  unfolding shapeOf
-  body-as kind count s ks sh e q h = rw (q, e) at h
-
-  pub node-as : (b s counts : List ℕ) (kind d : ℕ) → kind ≡ getD b 0 0 → s ≡ drop 1 b → d ≡ getD s 0 0
-      → r ≡ nodeNumber kind s n defs (getD counts d 0) m → r ≡ nodeNumber (getD b 0 0) (drop 1 b) n defs (getD counts (getD (drop 1 b) 0 0) 0) m
-  node-as b s counts kind d e f g h = rw (e, g, f) at h

@@ -1,14 +1,17 @@
 // The refusals 1 to 5 of one field, in the order of their rows: the number of the first row that holds, 0 where none does.
 ghost use mathlib.Core.Path.{_≡_};
 ghost use mathlib.Core.Bool.{_&&_};
+ghost use Prim.Native.Nat.{ℕ, _<_, _≤_};
+ghost use lib.ListN.{length, getD};
 ghost use lib.Dec.{eqb, leb};
-ghost use Rattle.rows.specs.Numbers.{callNumber, itemTaken, bodyNumber, nodeNumber, definitionNumber, mainNumber, fieldNumber};
+ghost use Rattle.rows.specs.Marks.{marksOf};
+ghost use Rattle.rows.specs.Numbers.{callNumber, shapeNumber};
+ghost use Rattle.rows.specs.Reads.{TakesItem, TakesBody, ReadsNode, TakesDefinition, TakesMain, TakesRoot};
 
-// What is named already: nodes, slots, variables that a rep keeps.
-pub struct Marks {
-    pub named: [bool; 256],
-    pub slots: [bool; 256],
-    pub kept: [bool; 256],
+// Number 0: the node that was read. Else the refusal.
+pub struct Read {
+    pub number: u32,
+    pub node: nodes::Node,
 }
 
 // A call names its definition first.
@@ -38,49 +41,52 @@ fn not_defined(lead: u8, item: u8, defs: usize) -> bool
     }
 }
 
-fn item_taken(lead: u8, item: u8, slots: [bool; 256], kept: [bool; 256]) -> bool
-    ensures { λ r. ⌜ r ≡ itemTaken lead item slots kept ⌝ }
+// Marks a slot or a variable that a rep keeps, and says whether it was marked already.
+fn take_item(lead: u8, item: u8, slots: &mut [bool; 256], kept: &mut [bool; 256]) -> bool
+    requires { ⌜ (length (now slots) ≡ 256) × (length (now kept) ≡ 256) ⌝ }
+    ensures { λ r. ⌜ TakesItem lead item (now (slots .entry)) (now (kept .entry)) r (now (slots .exit)) (now (kept .exit)) ⌝ }
 {
-    let i = item as usize;
-    if lead == 5 {
-        return slots[i];
+    if nodes::take(lead == 5, item, slots) {
+        return true;
     }
-    if lead == 4 {
-        return kept[i];
-    }
-    false
+    nodes::take(lead == 4, item, kept)
 }
 
-// The rows of a body whose length is right; ks are its children.
-fn body_number(lead: u8, s: &[u8], ks: &[u8], n: usize, defs: usize, m: Marks) -> u32
-    ensures { λ r. ⌜ r ≡ bodyNumber lead (now (s .entry)) (now (ks .entry)) n defs m ⌝ }
+// The rows of a node whose body has the right length. What it names is marked.
+fn body_number(
+    x: nodes::Node,
+    n: usize,
+    defs: usize,
+    named: &mut [bool; 256],
+    slots: &mut [bool; 256],
+    kept: &mut [bool; 256],
+) -> u32
+    requires { ⌜ (length (now named) ≡ 256) × (length (now slots) ≡ 256) × (length (now kept) ≡ 256) ⌝ }
+    ensures { λ r. ⌜ TakesBody x n defs (marksOf (now (named .entry)) (now (slots .entry)) (now (kept .entry))) r (marksOf (now (named .exit)) (now (slots .exit)) (now (kept .exit))) ⌝ }
 {
-    let item = nodes::item(lead, s);
-    let constant = nodes::constant(lead, s);
-    if !nodes::in_range(lead, item, constant) {
+    let lead = nodes::lead_of(x.kind);
+    if !nodes::in_range(lead, x.item, x.constant) {
         return 3; // out of its range
     }
-    if nodes::any_beyond(ks, n) {
+    if nodes::any_beyond(x, n) {
         return 4; // a node not yet given
     }
-    if not_defined(lead, item, defs) {
+    if not_defined(lead, x.item, defs) {
         return 4; // a definition not yet given
     }
-    let named = m.named;
-    if nodes::any_taken(ks, named) {
+    if nodes::take_children(x, named) {
         return 5; // a node taken already
     }
-    let slots = m.slots;
-    let kept = m.kept;
-    if item_taken(lead, item, slots, kept) {
+    if take_item(lead, x.item, slots, kept) {
         return 5; // a slot or variable taken already
     }
     0
 }
 
-// A node's rows; s is what follows its kind, count the parameters of the definition that its next byte names.
-fn node_number(kind: u8, s: &[u8], n: usize, defs: usize, count: u8, m: Marks) -> u32
-    ensures { λ r. ⌜ r ≡ nodeNumber kind (now (s .entry)) n defs count m ⌝ }
+// A node's rows before those of its body; s is what follows its kind, count the parameters of the definition that its
+// next byte names.
+fn shape_number(kind: u8, s: &[u8], n: usize, defs: usize, count: u8) -> u32
+    ensures { λ r. ⌜ r ≡ shapeNumber kind (now (s .entry)) n defs count ⌝ }
 {
     if 256 <= n {
         return 2; // 257th node
@@ -98,12 +104,52 @@ fn node_number(kind: u8, s: &[u8], n: usize, defs: usize, count: u8, m: Marks) -
     if s.len() != w + k {
         return 1; // wrong length
     }
-    let ks = nodes::after(s, w);
-    body_number(shape.lead, s, ks, n, defs, m)
+    0
 }
 
-fn definition_number(b: &[u8], n: usize, defs: usize, named: [bool; 256]) -> u32
-    ensures { λ r. ⌜ r ≡ definitionNumber (now (b .entry)) n defs named ⌝ }
+// A refusal.
+fn no_node(number: u32) -> Read
+    ensures { λ r. ⌜ r .number ≡ number ⌝ }
+{
+    Read {
+        number: number,
+        node: nodes::none(),
+    }
+}
+
+// The node of a field's body, at a table of n nodes and defs definitions with these counts of parameters.
+pub fn read_node(
+    b: &[u8],
+    n: usize,
+    defs: usize,
+    counts: &[u8; 256],
+    named: &mut [bool; 256],
+    slots: &mut [bool; 256],
+    kept: &mut [bool; 256],
+) -> Read
+    requires { ⌜ (length (now named) ≡ 256) × (length (now slots) ≡ 256) × (length (now kept) ≡ 256) × ((d : ℕ) → d < defs → getD (now counts) d 0 ≤ 4) ⌝ }
+    ensures { λ r. ⌜ ReadsNode (now (b .entry)) n defs (now (counts .entry)) (marksOf (now (named .entry)) (now (slots .entry)) (now (kept .entry))) r (marksOf (now (named .exit)) (now (slots .exit)) (now (kept .exit))) ⌝ }
+{
+    if b.len() == 0 {
+        return no_node(1);
+    }
+    let kind = nodes::get(b, 0);
+    let s = nodes::after(b, 1);
+    let d = nodes::get(s, 0) as usize;
+    let count = counts[d];
+    let e = shape_number(kind, s, n, defs, count);
+    if e != 0 {
+        return no_node(e);
+    }
+    let x = nodes::node_in(kind, count, s);
+    let e = body_number(x, n, defs, named, slots, kept);
+    Read { number: e, node: x }
+}
+
+// A definition's rows. Its body is marked.
+fn definition_number(b: &[u8], n: usize, defs: usize, named: &mut [bool; 256]) -> u32
+    requires { ⌜ length (now named) ≡ 256 ⌝ }
+    ensures { λ r. ⌜ TakesDefinition (now (b .entry)) n defs (now (named .entry)) r (now (named .exit)) ⌝ }
 {
     if 32 <= defs {
         return 2; // 33rd definition
@@ -115,51 +161,44 @@ fn definition_number(b: &[u8], n: usize, defs: usize, named: [bool; 256]) -> u32
     if 4 < count {
         return 3; // a fifth parameter
     }
-    let body = nodes::get(b, 1) as usize;
-    if n <= body {
+    let body = nodes::get(b, 1);
+    if n <= body as usize {
         return 4;
     }
-    if named[body] {
+    if nodes::take(true, body, named) {
         return 5;
     }
     0
 }
 
-fn main_number(b: &[u8], n: usize, named: [bool; 256]) -> u32
-    ensures { λ r. ⌜ r ≡ mainNumber (now (b .entry)) n named ⌝ }
+// The rows of the main node, which is marked.
+fn main_number(b: &[u8], n: usize, named: &mut [bool; 256]) -> u32
+    requires { ⌜ length (now named) ≡ 256 ⌝ }
+    ensures { λ r. ⌜ TakesMain (now (b .entry)) n (now (named .entry)) r (now (named .exit)) ⌝ }
 {
     if b.len() != 1 {
         return 1;
     }
-    let main = nodes::get(b, 0) as usize;
-    if n <= main {
+    let main = nodes::get(b, 0);
+    if n <= main as usize {
         return 4;
     }
-    if named[main] {
+    if nodes::take(true, main, named) {
         return 5;
     }
     0
 }
 
-// The rows of a field by its tag, at a table of n nodes and defs definitions with these counts of parameters.
-pub fn field_number(tag: u8, b: &[u8], n: usize, defs: usize, counts: [u8; 256], m: Marks) -> u32
-    ensures { λ r. ⌜ r ≡ fieldNumber tag (now (b .entry)) n defs counts m ⌝ }
+// The rows of a field that is no node, by its tag.
+pub fn root_number(tag: u8, b: &[u8], n: usize, defs: usize, named: &mut [bool; 256]) -> u32
+    requires { ⌜ (tag ≡ 1 → ⊥) × (length (now named) ≡ 256) ⌝ }
+    ensures { λ r. ⌜ TakesRoot tag (now (b .entry)) n defs (now (named .entry)) r (now (named .exit)) ⌝ }
 {
-    let named = m.named;
     if tag == 2 {
         return definition_number(b, n, defs, named);
     }
     if tag == 3 {
         return main_number(b, n, named);
     }
-    if tag != 1 {
-        return 1;
-    }
-    if b.len() == 0 {
-        return 1;
-    }
-    let kind = nodes::get(b, 0);
-    let s = nodes::after(b, 1);
-    let d = nodes::get(s, 0) as usize;
-    node_number(kind, s, n, defs, counts[d], m)
+    1
 }

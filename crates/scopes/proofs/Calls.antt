@@ -88,6 +88,27 @@ more-marks {kinds} {items} {called} {n} {d} {b} m l e q =
         getD-set-other called d k b false (eqb-false k d f) ∙ m .mark k h
         ∙ rw (ne-eqb (getD items n 0) k (λ z. eqb-false k d f (sym z ∙ sym e)), and-false (isCall (getD kinds n 0))) (sym (or-false (calledBelow kinds items k n)))
 
+-- a node of a kind below 11 calls nothing and folds by no definition
+other-kind : (k m : ℕ) → k < 11 → 11 ≤ m → eqb k m ≡ false
+other-kind k m h l = ne-eqb k m (λ e. omega arith)
+
+pub same-marks : {kinds items : List ℕ} {called : List Bool} {n : ℕ} → Marks kinds items called n → getD kinds n 0 < 11 → Marks kinds items called (n + 1)
+unfolding calledBelow
+same-marks {kinds} {items} {called} {n} m h =
+    record {
+      long = m .long;
+      mark = λ k l. rw (add-one n) (m .mark k l ∙ rw (other-kind (getD kinds n 0) 12 h (omega arith)) (sym (or-false (calledBelow kinds items k n))));
+    }
+
+pub passes-over : {kinds items counts bodies : List ℕ} {sp : List Bool} {count n : ℕ} → Passed kinds items counts bodies sp count n → n < count
+    → getD kinds n 0 < 11 → Passed kinds items counts bodies sp count (n + 1)
+unfolding offends
+passes-over {kinds} {items} {counts} {bodies} {sp} {count} {n} p l h =
+    record {
+      none = λ t s. below-more (λ (k : ℕ). useOffends t k ≡ false) n (p .none t s)
+          (same-use t s n (getD items n 0) l refl ∙ rw (other-kind (getD kinds n 0) 12 h (omega arith), other-kind (getD kinds n 0) 11 h (omega arith)));
+    }
+
 -- ---- what the search answers, where the test of node n, as the code makes it, is r
 module _ {kinds items counts bodies : List ℕ} {sp : List Bool} {called : List Bool} {count n d b : ℕ} {r : Bool}
     (m : Marks kinds items called n) (p : Passed kinds items counts bodies sp count n) (h : n < count) (l : d < nodes) (e : d ≡ getD items n 0)

@@ -1,8 +1,8 @@
 -- The lowest node that misreads in a tree, from its parts'; and in all trees of a table. Assumes nothing.
-use mathlib.Core.Path.{_≡_, refl, _∙_}
+use mathlib.Core.Path.{_≡_, refl, sym, ap, _∙_}
 use mathlib.Core.Bool.{Bool, true, false, cond, or-comm}
 use mathlib.Core.List.{List, [], _∷_, _++_, append-nil}
-use Prim.Native.Nat.{ℕ, min, _+_, _*_, _^_, _≤_, _<_}
+use Prim.Native.Nat.{ℕ, min, max, _+_, _*_, _^_, _≤_, _<_}
 use native.Mathlib.Numerals.{add-one}
 use native.Mathlib.Omega.{arith}
 use lib.ListN.{getD, drop}
@@ -19,6 +19,7 @@ use Rattle.masks.specs.Formed.{nodes, width, operand, part, Formed, AllFormed}
 use Rattle.masks.specs.Masks.{hasBit}
 use Rattle.masks.proofs.Bits.{no-bit, power-bit, or-bit}
 use Rattle.masks.proofs.Trees.{View, is-0, is-1, is-2, is-3, is-4, is-5, is-6, is-7, is-8, is-9, is-10, is-16, is-17, is-18, is-19, view}
+use Rattle.masks.proofs.Leaves.{Leaf, leaf-width}
 use Rattle.scopes.specs.Places.{found, At}
 use Rattle.scopes.specs.Scope.{InScope, Lowest, ownPlace, inner, Told}
 use Rattle.scopes.proofs.Places.{join}
@@ -78,30 +79,60 @@ inner-scope {scope} {kept} w s = go (eqb (form w) 5)
               ∙ rw (power-bit (item w) v (omega arith) l, s .bit v l) (or-comm (among v kept) (eqb v (item w)));
         }
 
+-- a lowest that came in last, first
+first-out : (o a b c d best : ℕ) → min a (min b (min c (min d (min o best)))) ≡ min (min o (min a (min b (min c d)))) best
+first-out o a b c d best =
+    ap (λ (x : ℕ). min a (min b (min c x))) (swap d best)
+    ∙ ap (λ (x : ℕ). min a (min b x)) (swap c (min d best))
+    ∙ ap (min a) (swap b (min c (min d best)))
+    ∙ swap a (min b (min c (min d best)))
+    ∙ sym (assoc o (min a (min b (min c d))) best
+    ∙ ap (min o) (assoc a (min b (min c d)) best ∙ ap (min a) (assoc b (min c d) best ∙ ap (min b) (assoc c d best))))
+  where
+    swap : (x y : ℕ) → min x (min o y) ≡ min o (min x y)
+    swap x y = omega arith
+
+    assoc : (x y z : ℕ) → min (min x y) z ≡ min x (min y z)
+    assoc x y z = omega arith
+
 -- the calls of the code, put together
-pub joined : {ws : List ℕ} {n count scope x a b c d o r1 r2 r3 r : ℕ} → n < nodes → Formed ws n
-    → Lowest count scope (part ws (word ws n) 2) a → Lowest count scope (part ws (word ws n) 3) b → r1 ≡ min a b
-    → x ≡ inner (word ws n) scope → Lowest count x (part ws (word ws n) 1) c → r2 ≡ min c r1
-    → Lowest count scope (part ws (word ws n) 0) d → r3 ≡ min d r2
-    → o ≡ ownPlace n (word ws n) count scope → r ≡ min o r3
-    → Lowest count scope (treeAt ws n) r
-joined {ws} {n} {count} {scope} h f la lb e1 ex lc e2 ld e3 eo e =
+pub joined : {ws : List ℕ} {n count scope x best o r0 r1 r2 r3 r : ℕ} → n < nodes → Formed ws n
+    → o ≡ ownPlace n (word ws n) count scope → r0 ≡ min o best
+    → Lowest count scope (part ws (word ws n) 3) r0 r1 → Lowest count scope (part ws (word ws n) 2) r1 r2
+    → x ≡ inner (word ws n) scope → Lowest count x (part ws (word ws n) 1) r2 r3
+    → Lowest count scope (part ws (word ws n) 0) r3 r
+    → Lowest count scope (treeAt ws n) best r
+joined {ws} {n} {count} {scope} {x} {best} {o} h f eo e0 l3 l2 ex l1 l0 =
     record {
+      low = min o (min (l0 .low) (min (l1 .low) (min (l2 .low) (l3 .low))));
       place = λ kept s.
           let k = keptIn (word ws n) kept in
-          rw (all-misread (view f) count kept, e, e3, e2, e1, eo)
+          rw (all-misread (view f) count kept, eo)
           (join (own-place n (word ws n) count scope kept h s)
-          (join (ld .place kept s) (join (lc .place k (rw ex (inner-scope (word ws n) s))) (join (la .place kept s) (lb .place kept s)))));
+          (join (l0 .place kept s) (join (l1 .place k (rw ex (inner-scope (word ws n) s))) (join (l2 .place kept s) (l3 .place kept s)))));
+      least = l0 .least
+          ∙ ap (min (l0 .low)) (l1 .least ∙ ap (min (l1 .low)) (l2 .least ∙ ap (min (l2 .low)) (l3 .least ∙ ap (min (l3 .low)) e0)))
+          ∙ first-out o (l0 .low) (l1 .low) (l2 .low) (l3 .low) best;
     }
 
 -- ---- an operand
-module _ (ws : List ℕ) (w j : ℕ) {count scope : ℕ} where
-  pub part-some : {r o : ℕ} → j < width w → o ≡ operand w j → Lowest count scope (treeAt ws o) r → Lowest count scope (part ws w j) r
+module _ (ws : List ℕ) (w j : ℕ) {count scope best : ℕ} where
+  pub part-some : {r o : ℕ} → j < width w → o ≡ operand w j → Lowest count scope (treeAt ws o) best r → Lowest count scope (part ws w j) best r
   part-some h e l = rw (lt-ltb j (width w) h, ← e) l
 
-  pub part-none : width w ≤ j → Lowest count scope (part ws w j) nodes
+  pub part-none : width w ≤ j → Lowest count scope (part ws w j) best best
   unfolding misread lowest
-  part-none h = rw (le-ltb j (width w) h) record { place = λ kept s. record { is = refl } }
+  part-none h =
+      rw (le-ltb j (width w) h)
+      record { low = max nodes best; place = λ kept s. record { is = rw (le-ltb (max nodes best) nodes (omega arith)) }; least = omega arith }
+
+-- a leaf has nothing under it
+pub walk-leaf : {ws : List ℕ} {n count scope best o r : ℕ} → n < nodes → Formed ws n → Leaf (word ws n) → o ≡ ownPlace n (word ws n) count scope
+    → r ≡ min o best → Lowest count scope (treeAt ws n) best r
+walk-leaf {ws} {n} h f l eo e =
+    let z : width (word ws n) ≡ 0 = leaf-width (word ws n) l in
+    joined h f eo e (part-none ws (word ws n) 3 (omega arith)) (part-none ws (word ws n) 2 (omega arith)) refl (part-none ws (word ws n) 1 (omega arith))
+    (part-none ws (word ws n) 0 (omega arith))
 
 -- what a call of `walk` at a lower node asks
 pub asks : {ws : List ℕ} {n k o t : ℕ} → n * 2 ≡ t → n < nodes → AllFormed ws → k ≡ o → o < n → (k * 2 + 1 < t) × ((k < nodes) × AllFormed ws)
@@ -118,15 +149,15 @@ module _ {ws counts bodies : List ℕ} {definitions main : ℕ} (t : Table) (h :
   none-misread = rw (← h .defined .all, drop-length (t .definitions)) record { is = refl }
 
   -- one definition more
-  pub more-misread : (d : ℕ) {x r s : ℕ} → d < definitions → Lowest (getD counts d 0) 0 (treeAt ws (getD bodies d 0)) x
-      → At (misreadIn t (drop (d + 1) (t .definitions))) r → s ≡ min x r → At (misreadIn t (drop d (t .definitions))) s
+  pub more-misread : (d : ℕ) {r s : ℕ} → d < definitions → Lowest (getD counts d 0) 0 (treeAt ws (getD bodies d 0)) r s
+      → At (misreadIn t (drop (d + 1) (t .definitions))) r → At (misreadIn t (drop d (t .definitions))) s
   unfolding misreadIn
-  more-misread d {x} l w i e =
-      let m : At (misread (definitionAt t d .count) [] (tree t (definitionAt t d .body))) x =
+  more-misread d l w i =
+      let m : At (misread (definitionAt t d .count) [] (tree t (definitionAt t d .body))) (w .low) =
       rw (h .defined .count d l, h .defined .body d l, ← h .trees (getD bodies d 0) (h .defined .given d l)) (w .place [] no-scope) in
-      rw (drop-cons (t .definitions) d noDefinition (omega (arith, h .defined .all)), e) (join m (rw (add-one d) at i))
+      rw (drop-cons (t .definitions) d noDefinition (omega (arith, h .defined .all)), w .least) (join m (rw (add-one d) at i))
 
   -- and main
-  pub all-trees : {x r s : ℕ} → Lowest 0 0 (treeAt ws main) x → At (misreadIn t (t .definitions)) r → s ≡ min x r
+  pub all-trees : {r s : ℕ} → Lowest 0 0 (treeAt ws main) r s → At (misreadIn t (t .definitions)) r
       → At (misread 0 [] (tree t main) ++ misreadIn t (t .definitions)) s
-  all-trees w i e = rw (← h .trees main (h .given), e) (join (w .place [] no-scope) i)
+  all-trees w i = rw (← h .trees main (h .given), w .least) (join (w .place [] no-scope) i)

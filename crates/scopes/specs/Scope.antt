@@ -2,7 +2,7 @@
 use mathlib.Core.Path.{_≡_}
 use mathlib.Core.Bool.{cond}
 use mathlib.Core.List.{List}
-use Prim.Native.Nat.{ℕ, _^_, _<_}
+use Prim.Native.Nat.{ℕ, min, _^_, _<_}
 use lib.ListN.{length}
 use lib.Dec.{eqb, ltb}
 use lib.Bits.{bitOr}
@@ -18,9 +18,11 @@ use Rattle.scopes.specs.Places.{At, Defined}
 pub record InScope (scope : ℕ) (kept : List ℕ) : Type 0 where
   pub bit : (v : ℕ) → v < 16 → hasBit v scope ≡ among v kept
 
--- r is the lowest node that misreads in the tree e, whose definition has count parameters, under the reps of scope
-pub record Lowest (count scope : ℕ) (e : Expr) (r : ℕ) : Type 0 where
-  pub place : (kept : List ℕ) → InScope scope kept → At (misread count kept e) r
+-- r is the lower of best and the lowest node that misreads in the tree e, whose definition has count parameters, under the reps of scope
+pub record Lowest (count scope : ℕ) (e : Expr) (best r : ℕ) : Type 0 where
+  pub low : ℕ
+  pub place : (kept : List ℕ) → InScope scope kept → At (misread count kept e) low
+  pub least : r ≡ min low best
 
 -- node n itself, where its word misreads
 unfoldable pub ownPlace : ℕ → ℕ → ℕ → ℕ → ℕ

@@ -1,6 +1,7 @@
 // The lowest node that offends: by a parameter or variable that it may not read, by its use of a definition.
 use masks::form_of;
 use masks::item_of;
+use masks::leaf;
 use masks::operand;
 use masks::width_of;
 ghost use mathlib.Core.Path.{_≡_};
@@ -68,27 +69,35 @@ fn with_own(w: u64, scope: u16) -> u16
     scope
 }
 
-fn part(ws: &[u64; NODES], n: usize, j: u32, count: u8, scope: u16) -> u16
+// Each of the two: the lower of `best` and the lowest node that misreads. Operand 0 comes last, as a call that is a jump; a
+// leaf is looked at where it is named.
+fn part(ws: &[u64; NODES], n: usize, j: u32, count: u8, scope: u16, best: u16) -> u16
     requires { ⌜ (j < 4) × (n < nodes) × AllFormed (now ws) ⌝ }
-    ensures { λ r. ⌜ Lowest count scope (partOf (now (ws .entry)) (word (now (ws .entry)) n) j) r ⌝ }
+    ensures { λ r. ⌜ Lowest count scope (partOf (now (ws .entry)) (word (now (ws .entry)) n) j) best r ⌝ }
 {
     let w = ws[n];
     if j < width_of(w) as u32 {
-        return walk(ws, operand(w, j), count, scope);
+        let m = operand(w, j);
+        let v = ws[m];
+        if leaf(v) {
+            return lower(own(m as u16, v, count, scope), best);
+        }
+        return walk(ws, m, count, scope, best);
     }
-    NONE
+    best
 }
 
-// The lowest node that misreads in the tree of node n. Called definitions are not entered.
-fn walk(ws: &[u64; NODES], n: usize, count: u8, scope: u16) -> u16
+// In the tree of node n. Called definitions are not entered.
+fn walk(ws: &[u64; NODES], n: usize, count: u8, scope: u16, best: u16) -> u16
     requires { ⌜ (n < nodes) × AllFormed (now ws) ⌝ }
-    ensures { λ r. ⌜ Lowest count scope (treeAt (now (ws .entry)) n) r ⌝ }
+    ensures { λ r. ⌜ Lowest count scope (treeAt (now (ws .entry)) n) best r ⌝ }
 {
     let w = ws[n];
-    let r = lower(part(ws, n, 2, count, scope), part(ws, n, 3, count, scope));
-    let r = lower(part(ws, n, 1, count, with_own(w, scope)), r);
-    let r = lower(part(ws, n, 0, count, scope), r);
-    lower(own(n as u16, w, count, scope), r)
+    let r = lower(own(n as u16, w, count, scope), best);
+    let r = part(ws, n, 3, count, scope, r);
+    let r = part(ws, n, 2, count, scope, r);
+    let r = part(ws, n, 1, count, with_own(w, scope), r);
+    part(ws, n, 0, count, scope, r)
 }
 
 // The lowest node that misreads, in main's tree and in those of the definitions.
@@ -106,9 +115,9 @@ pub fn misread_lowest(
     let mut d = definitions;
     while 0 < d {
         d -= 1;
-        r = lower(walk(ws, wide(bodies[d]), counts[d], 0), r);
+        r = walk(ws, wide(bodies[d]), counts[d], 0, r);
     }
-    lower(walk(ws, main as usize, 0, 0), r)
+    walk(ws, main as usize, 0, 0, r)
 }
 
 fn offends_by(kind: u8, spread: bool, called: bool, count: u8) -> bool
@@ -163,6 +172,10 @@ pub fn use_offends(
     while n < count {
         let i = n as usize;
         let kind = kinds[i];
+        if kind < 11 {
+            n += 1;
+            continue;
+        }
         let d = wide(items[i]);
         let b = wide(bodies[d]);
         if offends_by(kind, sp[b], called[d], counts[d]) {

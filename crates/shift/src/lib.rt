@@ -34,7 +34,7 @@ pub fn replayed(program: &[u8], list: &[u8], out: &mut [u8]) -> usize
     ensures { λ r. ⌜ Begins (now (out .exit)) r (replayed (now (program .entry)) (now (list .entry))) ⌝ }
 {
     let mut network = [0; CELLS];
-    cells::fresh(&mut network);
+    fresh::fresh(&mut network);
     let mut space = [0; ANSWERS];
     let v = calls::run(program, &mut network, list, &mut space);
     if v.number != 0 {

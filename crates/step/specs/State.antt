@@ -1,11 +1,9 @@
 -- The evaluator's sixty-four cells as a round's state, and what an evaluation leaves in them. Definitions only: nothing is assumed.
 use mathlib.Core.Path.{_≡_}
-use mathlib.Core.Bool.{Bool, false, not, cond}
 use mathlib.Core.List.{List}
 use Prim.Native.Nat.{ℕ, _+_, _<_, _≤_}
 use lib.ListN.{getD, take, drop}
 use lib.IntN.{ℤ, pos}
-use Rattle.number.specs.Number.{mark, eqZ}
 use Rattle.program.specs.Table.{among}
 use Rattle.round.specs.Round.{State, Value, number, field, Outcome, done, fault, fieldOf, erased}
 use Rattle.domain.specs.declared.Held.{Held}
@@ -49,10 +47,3 @@ Mask m vs = (v : ℕ) → v < 16 → inDomain v m ≡ among v vs
 pub record Erases (m : ℕ) (old new : List ℤ) : Type 0 where
   pub state : (vs : List ℕ) → Mask m vs → stateOf new ≡ erased vs (stateOf old)
   pub fault : faultOf new ≡ faultOf old
-
--- a cell holds a number; a device is heard with v and has the distance d
-abbrev pub isPresent : ℤ → Bool
-isPresent z = not (eqZ z mark)
-
-abbrev pub isRanged : ℤ → ℤ → Bool
-isRanged v d = cond (eqZ v (pos 0)) (isPresent d) false

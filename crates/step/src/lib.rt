@@ -1,70 +1,14 @@
-// A node's own work: its word taken apart, and what it does once its operands are there.
+// A node's own work: what it does once its operands are there.
 //
 // The state, `st`: cells 0 to 15 the variables, 16 + i what is sent in slot i, 32 the fault: 0, or one more than the
-// node that divided by 0. `here`: the device's own cells 0 to 272.
+// node that divided by 0.
 ghost use mathlib.Core.Path.{_≡_};
-ghost use Prim.Native.Nat.{ℕ, _+_, _<_, _≤_};
+ghost use Prim.Native.Nat.{_+_, _<_};
 ghost use lib.IntN.{pos};
-ghost use Rattle.number.specs.Number.{operatorOf, eqZ};
+ghost use Rattle.number.specs.Number.{operatorOf};
 ghost use Rattle.domain.specs.Held.{held};
-ghost use Rattle.domain.specs.Members.{bit};
-ghost use Rattle.round.specs.Round.{State, onNumbers, onFields, folded, sensed, heardIn, rangeIn};
-ghost use Rattle.words.specs.Word.{form, item, p1, p2, p3, p4, body, count, constantOf};
-ghost use Rattle.step.specs.State.{stateOf, faultOf, Gives, GivesField, Erases, isPresent, isRanged};
-
-pub fn form_of(w: u64) -> u8
-    ensures { λ r. ⌜ r ≡ form w ⌝ }
-{
-    (w % 32) as u8
-}
-
-pub fn item_of(w: u64) -> u8
-    ensures { λ r. ⌜ r ≡ item w ⌝ }
-{
-    (w / 32 % 16) as u8
-}
-
-pub fn first(w: u64) -> u16
-    ensures { λ r. ⌜ r ≡ p1 w ⌝ }
-{
-    (w / 512 % 1024) as u16
-}
-
-pub fn second(w: u64) -> u16
-    ensures { λ r. ⌜ r ≡ p2 w ⌝ }
-{
-    (w / 524288 % 1024) as u16
-}
-
-pub fn third(w: u64) -> u16
-    ensures { λ r. ⌜ r ≡ p3 w ⌝ }
-{
-    (w / 536870912 % 1024) as u16
-}
-
-pub fn fourth(w: u64) -> u16
-    ensures { λ r. ⌜ r ≡ p4 w ⌝ }
-{
-    (w / 549755813888 % 1024) as u16
-}
-
-pub fn body_of(w: u64) -> u16
-    ensures { λ r. ⌜ r ≡ body w ⌝ }
-{
-    (w / 562949953421312 % 1024) as u16
-}
-
-pub fn count_of(w: u64) -> u8
-    ensures { λ r. ⌜ r ≡ count w ⌝ }
-{
-    (w / 576460752303423488 % 8) as u8
-}
-
-pub fn constant_of(w: u64) -> i32
-    ensures { λ r. ⌜ r ≡ constantOf w ⌝ }
-{
-    (((w / 4294967296) as i64) - 2147483648) as i32
-}
+ghost use Rattle.round.specs.Round.{onNumbers, onFields, folded, sensed};
+ghost use Rattle.step.specs.State.{stateOf, faultOf, Gives, GivesField, Erases};
 
 // Node n divided by 0. The cells go by value, since only of those a proof is told how many there are.
 fn faulted(st: [i32; 64], n: u16) -> [i32; 64]
@@ -128,68 +72,6 @@ pub fn fold_op(st: &mut [i32; 64], n: u16, o: u8, from: i32, f: domain::Held) ->
         acc = arith::operate_any(o, acc, v);
     }
     acc
-}
-
-// A domain's highest bit, where a cell is not absent; where a device is heard with 0 and has a distance.
-fn mark_of(v: i32) -> u16
-    ensures { λ r. ⌜ r ≡ bit (isPresent v) ⌝ }
-{
-    if v == -2147483648 {
-        return 0;
-    }
-    32768
-}
-
-fn mark_in(v: i32, d: i32) -> u16
-    ensures { λ r. ⌜ r ≡ bit (isRanged v d) ⌝ }
-{
-    if v == 0 {
-        return mark_of(d);
-    }
-    0
-}
-
-// The field of the devices heard in a slot.
-pub fn heard_of(here: &[i32; 273], slot: usize) -> domain::Held
-    requires { ⌜ slot < 16 ⌝ }
-    ensures { λ r. ⌜ held r ≡ heardIn (now (here .entry)) slot ⌝ }
-{
-    let z: i32 = 0;
-    let mut cells = [z; 16];
-    let mut dom: u16 = 0;
-    let mut b: usize = 0;
-    while b < 16 {
-        let v = here[17 + 16 * b + slot];
-        cells[b] = v;
-        dom = dom / 2 + mark_of(v);
-        b += 1;
-    }
-    domain::Held {
-        dom: dom,
-        cells: cells,
-    }
-}
-
-// The field of link distances, for the devices heard with 0 in a slot.
-pub fn range_of(here: &[i32; 273], slot: usize) -> domain::Held
-    requires { ⌜ slot < 16 ⌝ }
-    ensures { λ r. ⌜ held r ≡ rangeIn (now (here .entry)) slot ⌝ }
-{
-    let z: i32 = 0;
-    let mut cells = [z; 16];
-    let mut dom: u16 = 0;
-    let mut b: usize = 0;
-    while b < 16 {
-        let v = here[17 + 16 * b + slot];
-        let d = here[17 + 16 * b];
-        cells[b] = d;
-        dom = dom / 2 + mark_in(v, d);
-        b += 1;
-    }
-    domain::Held {
-        dom: dom,
-        cells: cells,
-    }
 }
 
 // Whether sensor s is lit.

@@ -2,11 +2,11 @@
 use mathlib.Core.Path.{_≡_, refl, sym, ap, subst, _∙_}
 use mathlib.Core.Bool.{Bool}
 use mathlib.Core.List.{List, _++_}
-use Prim.Native.Nat.{ℕ, _+_, _≤_, _<_}
+use Prim.Native.Nat.{ℕ, max, _+_, _≤_, _<_}
+use native.Mathlib.Nat.{le-max-left, le-max-right, max-le}
 use native.Mathlib.Omega.{arith}
-use lib.ListN.{length, getD, set, replicate, length-set, length-replicate}
-use lib.Seq.{getD-set-same, getD-set-other}
-use borrow.Author.Count.{below-none, below-more}
+use lib.ListN.{length, getD}
+use borrow.Author.Count.{below-more}
 use Rattle.program.specs.Table as program
 use Rattle.program.specs.Tree.{spatial}
 use Rattle.program.specs.Check as checked
@@ -21,20 +21,8 @@ use Rattle.nodes.specs.Values.{headOf, childrenOf, nodeOf}
 use Rattle.load.specs.declared.Table.{Table}
 use Rattle.load.specs.Loads.{tableOf, nodeAt}
 use Rattle.load.proofs.Shown.{shown-nodes, shown-node, shown-definitions, shown-definition}
-use Rattle.vet.specs.Rows.{kindOf, itemOf, Column, Packed}
-
-module _ (f : Node → ℕ) (t : Table) where
-  pub column-none : Column f t (replicate nodes 0) 0
-  column-none = record { long = length-replicate {A = ℕ} nodes 0; each = below-none _ }
-
-  pub column-more : {xs : List ℕ} {n : ℕ} → n < nodes → Column f t xs n → Column f t (set xs n (f (nodeAt t n))) (n + 1)
-  column-more {xs} {n} h c =
-      record {
-        long = length-set xs n (f (nodeAt t n)) ∙ c .long;
-        each = below-more (λ (k : ℕ). getD (set xs n (f (nodeAt t n))) k 0 ≡ f (nodeAt t k)) n
-            (λ k l. getD-set-other xs n k (f (nodeAt t n)) 0 (λ m. omega arith) ∙ c .each k l)
-            (getD-set-same xs n (f (nodeAt t n)) 0 (omega (arith, c .long)));
-      }
+use Rattle.pack.specs.Packs.{kindOf, itemOf, Column}
+use Rattle.vet.specs.Rows.{Above, Packed, InColumns}
 
 -- the first value of a node of a kind that has an item first
 value-of : (x : Node) (m : ℕ) → x .kind ≡ m → getD (headOf m (x .item) (x .constant) ++ childrenOf x) 0 0 ≡ x .item → getD (nodeOf x .values) 0 0 ≡ x .item
@@ -68,25 +56,24 @@ module _ {t : Table} {ws : List ℕ} (p : Packed t ws) where
         given = omega (arith, p .given, shown-nodes t room);
       }
 
-  module _ {kinds items : List ℕ} (k : Column kindOf t kinds nodes) (i : Column itemOf t items nodes) where
+  module _ {kinds items : List ℕ} (k : Column kindOf t kinds (t .n)) (i : Column itemOf t items (t .n)) where
     kind-is : (n : ℕ) → n < t .n → checked.nodeAt (tableOf t) n .kind ≡ getD kinds n 0
     unfolding nodeOf
-    kind-is n l = ap (λ (x : program.Node). x .kind) (shown-node t room n checked.noNode l) ∙ sym (k .each n (omega (arith, p .good .n)))
+    kind-is n l = ap (λ (x : program.Node). x .kind) (shown-node t room n checked.noNode l) ∙ sym (k .each n l)
 
     -- a node by a definition: its definition, and that it is given
     named : (m n : ℕ) → n < t .n → getD kinds n 0 ≡ m → leadOf m ≡ 7
         → getD (headOf m (nodeAt t n .item) (nodeAt t n .constant) ++ childrenOf (nodeAt t n)) 0 0 ≡ nodeAt t n .item
         → (getD (checked.nodeAt (tableOf t) n .values) 0 0 ≡ getD items n 0) × (getD items n 0 < length (tableOf t .definitions))
     named m n l e lead v =
-        let b : n < nodes = omega (arith, p .good .n) in
-        let x : nodeAt t n .kind ≡ m = sym (k .each n b) ∙ e in
+        let x : nodeAt t n .kind ≡ m = sym (k .each n l) ∙ e in
         let low : nodeAt t n .item < t .defs = p .good .nodes n l .definition (ap leadOf x ∙ lead) .0 in (
-          ap (λ (x : program.Node). getD (x .values) 0 0) (shown-node t room n checked.noNode l) ∙ value-of (nodeAt t n) m x v ∙ sym (i .each n b),
-          omega (arith, i .each n b, shown-definitions t in-counts in-bodies),
+          ap (λ (x : program.Node). getD (x .values) 0 0) (shown-node t room n checked.noNode l) ∙ value-of (nodeAt t n) m x v ∙ sym (i .each n l),
+          omega (arith, i .each n l, shown-definitions t in-counts in-bodies),
         )
 
-    pub columns : {sp : List Bool} → Spatials ws sp nodes → Columns (tableOf t) kinds items (t .counts) (t .bodies) sp (t .n)
-    columns s =
+    columns : {sp : List Bool} {top : ℕ} → Spatials ws sp top → Above (t .bodies) (t .defs) top → Columns (tableOf t) kinds items (t .counts) (t .bodies) sp (t .n)
+    columns s a =
         record {
           all = sym (shown-nodes t room);
           defined = subst (λ (m : ℕ). Defined (tableOf t) (t .counts) (t .bodies) m) (shown-definitions t in-counts in-bodies) defined;
@@ -94,6 +81,29 @@ module _ {t : Table} {ws : List ℕ} (p : Packed t ws) where
           folds = λ n l e. named 11 n l e refl refl;
           calls = λ n l e. named 12 n l e refl refl;
           spread = λ d l.
-              let b : getD (t .bodies) d 0 < t .n = p .good .bodies d (omega (arith, shown-definitions t in-counts in-bodies)) in
-              s .mark (getD (t .bodies) d 0) (omega (arith, p .good .n)) ∙ ap spatial (p .trees (getD (t .bodies) d 0) b);
+              let h : d < t .defs = omega (arith, shown-definitions t in-counts in-bodies) in
+              let b : getD (t .bodies) d 0 < t .n = p .good .bodies d h in
+              s .mark (getD (t .bodies) d 0) (a .below d h) ∙ ap spatial (p .trees (getD (t .bodies) d 0) b);
         }
+
+pub in-columns : {t : Table} {ws kinds items : List ℕ} → Packed t ws → Column kindOf t kinds (t .n) → Column itemOf t items (t .n)
+    → InColumns t ws kinds items (t .counts) (t .bodies) (t .defs) (t .n)
+in-columns p k i = record { packed = p; isKinds = k; isItems = i; isCounts = refl; isBodies = refl; isDefs = refl; isN = refl }
+
+pub columns-of : {t : Table} {ws kinds items counts bodies : List ℕ} {defs n top : ℕ} {sp : List Bool} → InColumns t ws kinds items counts bodies defs n
+    → Spatials ws sp top → Above bodies defs top → Columns (tableOf t) kinds items counts bodies sp n
+columns-of c s a =
+    rw (c .isCounts, c .isBodies, c .isN) (columns (c .packed) (c .isKinds) (c .isItems) s (rw (c .isBodies, c .isDefs) at a))
+
+-- one body more
+pub above-none : {bodies : List ℕ} → Above bodies 0 0
+above-none = record { few = omega arith; below = λ d h. absurd (omega arith) }
+
+pub above-more : {bodies : List ℕ} {d top r : ℕ} → Above bodies d top → getD bodies d 0 < nodes → r ≡ max top (getD bodies d 0 + 1) → Above bodies (d + 1) r
+above-more {bodies} {d} {top} {r} a l e =
+    let t : top ≤ r = rw e (le-max-left top (getD bodies d 0 + 1)) in
+    let b : getD bodies d 0 + 1 ≤ r = rw e (le-max-right top (getD bodies d 0 + 1)) in
+    record {
+      few = rw e (max-le (a .few) (omega arith));
+      below = below-more (λ (k : ℕ). getD bodies k 0 < r) d (λ k h. let z = a .below k h in omega arith) (omega arith);
+    }

@@ -55,7 +55,7 @@ main-number t main e =
 
 module _ {t : Table} {ws : List ℕ} {r : ℕ} (g : Good t) (given : t .main < t .n) (p : Packs t ws r) where
   pub packed : Packed t ws
-  packed = record { good = g; given = given; formed = p .formed; trees = p .trees }
+  packed = record { good = g; given = given; formed = p .formed; trees = p .trees; empty = record { rest = p .rest } }
 
   pub sort-row : {v : Verdict} → pair v ≡ (7, r) → r < nodes → Rows t ws v
   unfolding treeRows

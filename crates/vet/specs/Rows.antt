@@ -1,8 +1,8 @@
 -- What the rows over all nodes go by. Internal: no public contract cites it. Definitions only: nothing is assumed.
 use mathlib.Core.Path.{_≡_}
 use mathlib.Core.List.{List, [], _++_}
-use Prim.Native.Nat.{ℕ, _<_}
-use lib.ListN.{length, getD}
+use Prim.Native.Nat.{ℕ, _<_, _≤_}
+use lib.ListN.{getD}
 use Rattle.program.specs.Table as program
 use Rattle.program.specs.Tree.{tree, misread}
 use Rattle.program.specs.Check.{misreadIn, treeRows}
@@ -10,22 +10,16 @@ use Rattle.words.specs.Word.{form, word}
 use Rattle.words.specs.Trees.{treeAt}
 use Rattle.verdict.specs.declared.Verdict.{Verdict}
 use Rattle.verdict.specs.Pair.{pair}
-use Rattle.masks.specs.Formed.{nodes, AllFormed}
-use Rattle.nodes.specs.declared.Node.{Node}
+use Rattle.masks.specs.Formed.{nodes, AllFormed, Empty}
 use Rattle.load.specs.declared.Table.{Table}
-use Rattle.load.specs.Loads.{tableOf, nodeAt, Good}
+use Rattle.load.specs.Loads.{tableOf, Good}
+use Rattle.pack.specs.Packs.{kindOf, itemOf, Column}
 use Rattle.pack.specs.Sorted.{Sorted}
 
-abbrev pub kindOf : Node → ℕ
-kindOf x = x .kind
-
-abbrev pub itemOf : Node → ℕ
-itemOf x = x .item
-
--- xs has what f takes of each node below n
-pub record Column (f : Node → ℕ) (t : Table) (xs : List ℕ) (n : ℕ) : Type 0 where
-  pub long : length xs ≡ nodes
-  pub each : (k : ℕ) → k < n → getD xs k 0 ≡ f (nodeAt t k)
+-- every body is below top
+pub record Above (bodies : List ℕ) (defs top : ℕ) : Type 0 where
+  pub few : top ≤ nodes
+  pub below : (d : ℕ) → d < defs → getD bodies d 0 < top
 
 -- a loaded table and its words
 pub record Packed (t : Table) (ws : List ℕ) : Type 0 where
@@ -33,6 +27,17 @@ pub record Packed (t : Table) (ws : List ℕ) : Type 0 where
   pub given : t .main < t .n
   pub formed : AllFormed ws
   pub trees : (n : ℕ) → n < t .n → treeAt ws n ≡ tree (tableOf t) n
+  pub empty : Empty ws (t .n)
+
+-- a loaded table, its words and its columns
+pub record InColumns (t : Table) (ws kinds items counts bodies : List ℕ) (defs n : ℕ) : Type 0 where
+  pub packed : Packed t ws
+  pub isKinds : Column kindOf t kinds (t .n)
+  pub isItems : Column itemOf t items (t .n)
+  pub isCounts : counts ≡ t .counts
+  pub isBodies : bodies ≡ t .bodies
+  pub isDefs : defs ≡ t .defs
+  pub isN : n ≡ t .n
 
 -- the nodes that misread, in main's tree and in those of the definitions
 abbrev pub misreads : program.Table → ℕ → List ℕ

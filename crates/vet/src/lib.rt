@@ -1,13 +1,14 @@
 // The whole check of a program table, refusals 1 to 10, and its preparation for rounds: its words and masks.
 ghost use mathlib.Core.Path.{_≡_};
-ghost use Prim.Native.Nat.{_<_};
+ghost use Prim.Native.Nat.{max, _+_, _<_, _≤_};
 ghost use lib.ListN.{length};
 ghost use Rattle.program.specs.Check.{check as checkOf, lowest, offending, useOffends};
 ghost use Rattle.verdict.specs.Pair.{pair};
-ghost use Rattle.masks.specs.Formed.{nodes};
+ghost use Rattle.masks.specs.Formed.{nodes, AllFormed};
+ghost use Rattle.load.specs.declared.Table as load;
 ghost use Rattle.load.specs.Loads.{tableOf, Good};
 ghost use Rattle.pack.specs.Packs.{found};
-ghost use Rattle.vet.specs.Rows.{kindOf, itemOf, Column, Packed, misreads as misreadsOf, Rows};
+ghost use Rattle.vet.specs.Rows.{Above, InColumns, Rows};
 ghost use Rattle.vet.specs.Prepares.{Prepares};
 
 const NODES: usize = 256;
@@ -25,55 +26,44 @@ pub struct Prepared {
     pub main: u16,
 }
 
-fn kinds_of(t: load::Table) -> [u8; NODES]
-    ensures { λ r. ⌜ Column kindOf t r nodes ⌝ }
+fn higher(top: usize, b: u8) -> usize
+    ensures { λ r. ⌜ (r ≡ max top (b + 1)) × (b < nodes) ⌝ }
 {
-    let mut kinds = [0; NODES];
-    let mut n: usize = 0;
-    while n < NODES {
-        let x = t.nodes[n];
-        kinds[n] = x.kind;
-        n += 1;
+    let above = b as usize + 1;
+    if top < above { above } else { top }
+}
+
+// One above the highest body.
+fn top_of(bodies: &[u8; NODES], defs: usize) -> usize
+    requires { ⌜ defs ≤ nodes ⌝ }
+    ensures { λ r. ⌜ Above (now (bodies .entry)) defs r ⌝ }
+{
+    let mut top: usize = 0;
+    let mut d: usize = 0;
+    while d < defs {
+        top = higher(top, bodies[d]);
+        d += 1;
     }
-    kinds
+    top
 }
 
-fn items_of(t: load::Table) -> [u8; NODES]
-    ensures { λ r. ⌜ Column itemOf t r nodes ⌝ }
-{
-    let mut items = [0; NODES];
-    let mut n: usize = 0;
-    while n < NODES {
-        let x = t.nodes[n];
-        items[n] = x.item;
-        n += 1;
-    }
-    items
-}
-
-// Refusal 8: the lowest node that misreads.
-fn misreads(t: load::Table, ws: &[u64; NODES]) -> u16
-    requires { ⌜ Packed t (now ws) ⌝ }
-    ensures { λ r. ⌜ lowest (misreadsOf (tableOf t) (t .main)) ≡ found r ⌝ }
-{
-    let counts = t.counts;
-    let bodies = t.bodies;
-    scopes::misread_lowest(ws, &counts, &bodies, t.defs, t.main as u16)
-}
-
-// Refusal 9: the lowest node that offends by its use of a definition.
-fn uses(t: load::Table, ws: &[u64; NODES]) -> u16
-    requires { ⌜ Packed t (now ws) ⌝ }
-    ensures { λ r. ⌜ lowest (offending (useOffends (tableOf t)) (length (tableOf t .nodes))) ≡ found r ⌝ }
+// Refusal 9: the lowest node that offends by its use of a definition. Only of bodies it asks whether they are spatial.
+fn uses(
+    ws: &[u64; NODES],
+    kinds: &[u8; NODES],
+    items: &[u8; NODES],
+    counts: &[u8; NODES],
+    bodies: &[u8; NODES],
+    defs: usize,
+    n: usize,
+) -> u16
+    requires { ⌜ AllFormed (now ws) × (defs ≤ nodes) × (n ≤ nodes) ⌝ }
+    ensures { λ r. ⌜ ((t : load.Table) → InColumns t (now (ws .entry)) (now (kinds .entry)) (now (items .entry)) (now (counts .entry)) (now (bodies .entry)) defs n → lowest (offending (useOffends (tableOf t)) (length (tableOf t .nodes))) ≡ found r) ⌝ }
 {
     let no = false;
     let mut sp = [no; NODES];
-    masks::make_spatial(ws, &mut sp);
-    let kinds = kinds_of(t);
-    let items = items_of(t);
-    let counts = t.counts;
-    let bodies = t.bodies;
-    scopes::use_offends(&kinds, &items, &counts, &bodies, &sp, t.n as u16)
+    masks::make_spatial(ws, &mut sp, top_of(bodies, defs));
+    scopes::use_offends(kinds, items, counts, bodies, &sp, n as u16)
 }
 
 // Refusals 7 to 10 of a loaded table, and its words.
@@ -81,15 +71,19 @@ fn tree_rows(t: load::Table, ws: &mut [u64; NODES]) -> verdict::Verdict
     requires { ⌜ Good t × (t .main < t .n) × (length (now ws) ≡ nodes) ⌝ }
     ensures { λ r. ⌜ Rows t (now (ws .exit)) r ⌝ }
 {
-    let r = pack::pack(t, ws);
+    let mut kinds = [0; NODES];
+    let mut items = [0; NODES];
+    let r = pack::pack(t, ws, &mut kinds, &mut items);
     if r < NONE {
         return verdict::refused(7, r as usize);
     }
-    let m = misreads(t, ws);
+    let counts = t.counts;
+    let bodies = t.bodies;
+    let m = scopes::misread_lowest(ws, &counts, &bodies, t.defs, t.main as u16);
     if m < NONE {
         return verdict::refused(8, m as usize);
     }
-    let u = uses(t, ws);
+    let u = uses(ws, &kinds, &items, &counts, &bodies, t.defs, t.n);
     if u < NONE {
         return verdict::refused(9, u as usize);
     }
@@ -121,7 +115,7 @@ pub fn prepare(s: &[u8], ws: &mut [u64; NODES], us: &mut [u16; NODES]) -> Prepar
             main: 0,
         };
     }
-    masks::make_masks(ws, us);
+    masks::make_masks(ws, us, t.n);
     Prepared {
         number: 0,
         place: 0,

@@ -41,3 +41,7 @@ below ws (suc n) = below ws n ++ made n (below ws n) (word ws n) ∷ []
 
 unfoldable pub treeAt : List ℕ → ℕ → Expr
 treeAt ws n = made n (below ws n) (word ws n)
+
+-- the tree of an argument, or nothing
+abbrev pub argOf : List ℕ → Bool → ℕ → Expr
+argOf ws there k = cond there (treeAt ws k) nothing

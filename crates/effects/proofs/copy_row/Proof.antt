@@ -8,7 +8,8 @@ use mir.Facts.{toZ-ofZ}
 use denote.Ref.{now}
 use lib.IntN.{pos}
 use Rattle.network.specs.Cells.{row, store}
-use Rattle.effects.proofs.Stores.{copy-more, copy-done, nothing-yet}
+use Rattle.network.proofs.Stores.{nothing-yet}
+use Rattle.effects.proofs.Stores.{copy-more, copy-done}
 use Rattle.effects.proofs.copy_row.Statement.{statement}
 use Rattle.effects.proofs.copy_row.Tie as tie
 

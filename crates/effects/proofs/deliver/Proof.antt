@@ -7,7 +7,8 @@ use mir.Val.{ofZ}
 use denote.Ref.{now}
 use Rattle.event.specs.Event.{deliver}
 use Rattle.event.specs.Step.{refusal}
-use Rattle.effects.proofs.Refusals.{turned-by, done, Pair, pair}
+use Rattle.places.proofs.Devices.{Pair}
+use Rattle.effects.proofs.Refusals.{turned-by, done, pair}
 use Rattle.effects.proofs.deliver.Statement.{statement}
 use Rattle.effects.proofs.deliver.Tie as tie
 
@@ -47,8 +48,8 @@ copy-row-requires c κs =
     let p = two (c .before .before .before) in
     (omega (arith, c .before .before .pending-to .ensures), omega (arith, c .before .heard-from .ensures), λ i j h k e. omega (arith, c .before .before .pending-to .ensures, c .before .heard-from .ensures))
 
-clear-row-requires : tie.Need-clear-row-requires
-clear-row-requires c κs = let p = two (c .before .before .before .before .before .before) in omega (arith, c .before .before .before .before .heard-from .ensures, c .before .before .before .before .before .pending-to .ensures)
+no-message-requires : tie.Need-no-message-requires
+no-message-requires c κs = let p = two (c .before .before .before .before .before .before) in omega (arith, c .before .before .before .before .heard-from .ensures, c .before .before .before .before .before .pending-to .ensures)
 
 answered-requires-2 : tie.Need-answered-requires-2
 answered-requires-2 c κs = search needs
@@ -59,7 +60,7 @@ same-length-2 c = search needs
 returns-2 : tie.Need-returns-2
 returns-2 c =
     done _ _ _ _ (passes (c .before .before .before .before .before .before .before .before .before))
-    (λ main. c .before .before .clear-row .ensures ∙ rw (c .before .before .before .before .before .copy-row .ensures, c .before .before .before .before .before .before .before .heard-from .ensures, c .before .before .before .before .before .before .before .before .pending-to .ensures))
+    (λ main. c .before .before .no-message .ensures ∙ rw (c .before .before .before .before .before .copy-row .ensures, c .before .before .before .before .before .before .before .heard-from .ensures, c .before .before .before .before .before .before .before .before .pending-to .ensures))
     (λ main. c .answered2 .ensures)
 
 pub deliver-spec : {M : Type 1} → statement M
@@ -75,7 +76,7 @@ deliver-spec =
     add-copy-row
     add-copy-row-2
     copy-row-requires
-    clear-row-requires
+    no-message-requires
     answered-requires-2
     same-length-2
     returns-2)

@@ -10,8 +10,9 @@ use denote.Ref.{now}
 use Rattle.network.specs.Network.{isDistance}
 use Rattle.event.specs.Event.{link}
 use Rattle.event.specs.Step.{isDevice, outOfRange, heardFrom}
-use Rattle.effects.proofs.Stores.{store-one}
-use Rattle.effects.proofs.Refusals.{turned, done, is-14, is-15, is-0, Pair, pair-of, said-no, said-yes}
+use Rattle.network.proofs.Stores.{store-one}
+use Rattle.places.proofs.Devices.{Pair, pair-of, said-no, said-yes}
+use Rattle.effects.proofs.Refusals.{turned, done, is-14, is-15, is-0}
 use Rattle.effects.proofs.link.Statement.{statement}
 use Rattle.effects.proofs.link.Tie as tie
 
@@ -21,8 +22,8 @@ two c = said-yes (c .before .are-devices .ensures) (c .if1 .left)
 pair : (c : tie.Else1) → Pair (c .before .before .args .a) (c .before .before .args .b)
 pair c = pair-of _ _ (two c)
 
-distance-said : (c : tie.After-is-distance) → c .is-distance .result ≡ isDistance (c .before .before .before .args .distance)
-distance-said c = rw (toZ-ofZ w32 (c .before .before .before .args .distance) (c .before .before .before .fits .distance)) at (c .is-distance .ensures)
+distance-said : (c : tie.After-distance-sound) → c .distance-sound .result ≡ isDistance (c .before .before .before .args .distance)
+distance-said c = rw (toZ-ofZ w32 (c .before .before .before .args .distance) (c .before .before .before .fits .distance)) at (c .distance-sound .ensures)
 
 in-range : (c : tie.Else2) → outOfRange (link (c .before .before .before .before .args .a) (c .before .before .before .before .args .b) (c .before .before .before .before .args .distance)) ≡ false
 in-range c = rw (two (c .before .before), said-yes (distance-said (c .before)) (c .if2 .left))
@@ -36,8 +37,8 @@ answered-requires c κs = search needs
 returns : tie.Need-returns
 returns c = turned _ _ _ 14 (is-14 _ _ (rw (said-no (c .before .before .are-devices .ensures) (c .before .if1 .taken)))) (λ z. omega arith) (c .answered .ensures)
 
-is-distance-requires : tie.Need-is-distance-requires
-is-distance-requires c κs = search needs
+distance-sound-requires : tie.Need-distance-sound-requires
+distance-sound-requires c κs = search needs
 
 answered-requires-2 : tie.Need-answered-requires-2
 answered-requires-2 c κs = search needs
@@ -82,7 +83,7 @@ link-spec =
     are-devices-requires
     answered-requires
     returns
-    is-distance-requires
+    distance-sound-requires
     answered-requires-2
     returns-2
     answered-requires-3

@@ -8,7 +8,8 @@ use mir.Val.{ofZ}
 use denote.Ref.{now}
 use Rattle.event.specs.Event.{deliver}
 use Rattle.event.specs.Step.{refusal}
-use Rattle.effects.proofs.Refusals.{turned-by, done, Pair, pair, same-refusal}
+use Rattle.places.proofs.Devices.{Pair}
+use Rattle.effects.proofs.Refusals.{turned-by, done, pair, same-refusal}
 use Rattle.effects.proofs.lose.Statement.{statement}
 use Rattle.effects.proofs.lose.Tie as tie
 
@@ -34,8 +35,8 @@ returns c =
 pending-to-requires : tie.Need-pending-to-requires
 pending-to-requires c κs = let p = two (c .before) in omega arith
 
-clear-row-requires : tie.Need-clear-row-requires
-clear-row-requires c κs = let p = two (c .before .before) in omega (arith, c .pending-to .ensures)
+no-message-requires : tie.Need-no-message-requires
+no-message-requires c κs = let p = two (c .before .before) in omega (arith, c .pending-to .ensures)
 
 answered-requires-2 : tie.Need-answered-requires-2
 answered-requires-2 c κs = search needs
@@ -45,7 +46,7 @@ same-length-2 c = search needs
 
 returns-2 : tie.Need-returns-2
 returns-2 c =
-    done _ _ _ _ (same-refusal _ _ _ ∙ passes (c .before .before .before .before .before)) (λ main. c .before .before .clear-row .ensures ∙ rw (c .before .before .before .pending-to .ensures)) (λ main. c .answered2 .ensures)
+    done _ _ _ _ (same-refusal _ _ _ ∙ passes (c .before .before .before .before .before)) (λ main. c .before .before .no-message .ensures ∙ rw (c .before .before .before .pending-to .ensures)) (λ main. c .answered2 .ensures)
 
 pub lose-spec : {M : Type 1} → statement M
 lose-spec =
@@ -56,7 +57,7 @@ lose-spec =
     same-length
     returns
     pending-to-requires
-    clear-row-requires
+    no-message-requires
     answered-requires-2
     same-length-2
     returns-2)

@@ -12,8 +12,9 @@ use mir.Val.{SFits}
 use denote.Ref.{now}
 use Rattle.event.specs.Event.{signal}
 use Rattle.event.specs.Step.{isDevice, outOfRange, sensorsOf, digitSet}
-use Rattle.effects.proofs.Stores.{store-one}
-use Rattle.effects.proofs.Refusals.{turned, done, is-14, is-0, device, said-no, said-yes}
+use Rattle.network.proofs.Stores.{store-one}
+use Rattle.places.proofs.Devices.{device, said-no, said-yes}
+use Rattle.effects.proofs.Refusals.{turned, done, is-14, is-0}
 use Rattle.effects.proofs.Digit.{Plain, plain}
 use Rattle.effects.proofs.signal.Statement.{statement}
 use Rattle.effects.proofs.signal.Tie as tie

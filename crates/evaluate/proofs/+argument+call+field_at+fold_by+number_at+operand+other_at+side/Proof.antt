@@ -1,4 +1,4 @@
--- The cycle of the evaluator meets its contracts: each need in a line, by the laws of Laws. Assumes nothing.
+-- The cycle of the evaluator meets its contracts: each need in a line, by the laws of crate leaf. Assumes nothing.
 use mathlib.Core.Path.{_≡_, refl, sym, ap, _∙_}
 use mathlib.Core.List.{List}
 use Prim.Native.Nat.{ℕ, _+_, _*_, _<_}
@@ -22,7 +22,7 @@ use Rattle.step.specs.State.{stateOf, faultOf}
 use Rattle.step.proofs.Laws.{state-variable, clear, goes, fails, gives, gave, passed, on-numbers, on-fields, stores, sends}
 use Rattle.step.proofs.Folding.{along, fold-starts, fold-ends, fold-turns}
 use Rattle.words.specs.Trees.{treeAt}
-use Rattle.evaluate.proofs.Laws.{right, ev, ev-oper, ev-sense, ev-rep, ev-if, ev-mux, ev-fold, ev-call, ev-nbr, ev-range, ev-iff, ev-foldop, ev-operf, asks, asks-field, asks-side, asks-arg, asks-call, asks-fold, mask-of, numbers-read, env-read, from-read, second-read, moved, cond-yes, cond-no, same, other, no-argument, an-argument, is-leaf, is-19, either}
+use Rattle.leaf.proofs.Laws.{right, ev, ev-oper, ev-sense, ev-rep, ev-if, ev-mux, ev-fold, ev-call, ev-nbr, ev-range, ev-iff, ev-foldop, ev-operf, asks, asks-field, asks-side, asks-arg, asks-call, asks-fold, mask-of, numbers-read, env-read, from-read, second-read, moved, cond-yes, cond-no, same, other, no-argument, an-argument, is-leaf, is-19, either}
 use borrow.Fn.Kinds.{In}
 use borrow.Fn.PlainCycle.{Measures, is, falls, and}
 use Rattle.evaluate.proofs.argument.Reads as argument
@@ -54,22 +54,22 @@ use Rattle.domain.proofs.no_field.Reads as no-field-reads
 use Rattle.domain.proofs.size.Reads as size-reads
 use Rattle.domain.proofs.spread.Reads as spread-reads
 use Rattle.domain.proofs.without.Reads as without-reads
-use Rattle.evaluate.proofs.leaf.Reads as leaf-reads
-use Rattle.step.proofs.body_of.Reads as body-of-reads
-use Rattle.step.proofs.count_of.Reads as count-of-reads
+use Rattle.leaf.proofs.leaf.Reads as leaf-reads
+use Rattle.unpack.proofs.body_of.Reads as body-of-reads
+use Rattle.unpack.proofs.count_of.Reads as count-of-reads
 use Rattle.step.proofs.erase.Reads as erase-reads
 use Rattle.step.proofs.field_op.Reads as field-op-reads
-use Rattle.step.proofs.first.Reads as first-reads
+use Rattle.unpack.proofs.first.Reads as first-reads
 use Rattle.step.proofs.fold_op.Reads as fold-op-reads
-use Rattle.step.proofs.form_of.Reads as form-of-reads
-use Rattle.step.proofs.fourth.Reads as fourth-reads
-use Rattle.step.proofs.heard_of.Reads as heard-of-reads
-use Rattle.step.proofs.item_of.Reads as item-of-reads
+use Rattle.unpack.proofs.form_of.Reads as form-of-reads
+use Rattle.unpack.proofs.fourth.Reads as fourth-reads
+use Rattle.heard.proofs.heard_of.Reads as heard-of-reads
+use Rattle.unpack.proofs.item_of.Reads as item-of-reads
 use Rattle.step.proofs.lit_of.Reads as lit-of-reads
 use Rattle.step.proofs.number_op.Reads as number-op-reads
-use Rattle.step.proofs.range_of.Reads as range-of-reads
-use Rattle.step.proofs.second.Reads as second-reads
-use Rattle.step.proofs.third.Reads as third-reads
+use Rattle.heard.proofs.range_of.Reads as range-of-reads
+use Rattle.unpack.proofs.second.Reads as second-reads
+use Rattle.unpack.proofs.third.Reads as third-reads
 use Rattle.evaluate.proofs.+argument+call+field_at+fold_by+number_at+operand+other_at+side.{statement}
 use Rattle.evaluate.proofs.+argument+call+field_at+fold_by+number_at+operand+other_at+side.Tie.{close}
 

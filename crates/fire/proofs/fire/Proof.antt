@@ -16,7 +16,7 @@ use Rattle.event.specs.Event.{fire}
 use Rattle.event.specs.Step.{outOfRange}
 use Rattle.step.specs.State.{faultOf}
 use Rattle.step.proofs.Laws.{clear}
-use Rattle.effects.proofs.Refusals.{device}
+use Rattle.places.proofs.Devices.{device}
 use Rattle.fire.proofs.Rounds.{refused, fires, fails, stopped, node-fits, node-read}
 use borrow.Author.Needs.{needs, sfits-of}
 use Rattle.fire.proofs.fire.Statement.{statement}

@@ -1,5 +1,5 @@
 -- `fire::put_messages` meets its contract. Assumes nothing.
-use mathlib.Core.Path.{_≡_, refl, ap, _∙_}
+use mathlib.Core.Path.{_≡_, refl}
 use Prim.Native.Nat.{ℕ, _+_, _-_, _*_, _≤_}
 use native.Mathlib.Omega.{arith}
 use borrow.Author.Needs.{needs}
@@ -7,8 +7,8 @@ use lib.ListN.{length}
 use Rattle.field.specs.Field.{from}
 use Rattle.round.specs.Round.{message, joined}
 use Rattle.step.specs.State.{stateOf}
-use Rattle.effects.proofs.Stores.{Stored, fill-none, length-store}
-use Rattle.fire.proofs.Rows.{row-more, joined-more, joined-length}
+use Rattle.network.proofs.Stores.{length-store}
+use Rattle.fire.proofs.Rows.{Stored, none-yet, row-more, joined-more, joined-length}
 use Rattle.fire.proofs.Rounds.{message-length, sent-length}
 use Rattle.fire.proofs.put_messages.Statement.{statement}
 use Rattle.fire.proofs.put_messages.Tie as tie
@@ -24,7 +24,7 @@ array-set-of-none c = search needs
 
 loop-holds : tie.Need-loop-holds Inv-loop μ-loop
 unfolding joined from
-loop-holds c = (omega arith, refl, fill-none _ _)
+loop-holds c = (omega arith, refl, none-yet _ _)
 
 mul-put-message : tie.Need-mul-put-message Inv-loop μ-loop
 mul-put-message c = search needs

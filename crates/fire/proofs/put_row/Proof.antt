@@ -7,8 +7,7 @@ use lib.ListN.{length, take, length-set}
 use mir.Facts.{toZ-ofZ}
 use lib.IntN.{pos}
 use Rattle.network.specs.Cells.{row}
-use Rattle.effects.proofs.Stores.{Stored, fill-none}
-use Rattle.fire.proofs.Rows.{cell-more, cells-all, row-cell, row-length}
+use Rattle.fire.proofs.Rows.{Stored, none-yet, cell-more, cells-all, row-cell, row-length}
 use Rattle.fire.proofs.put_row.Statement.{statement}
 use Rattle.fire.proofs.put_row.Tie as tie
 
@@ -19,7 +18,7 @@ abbrev μ-loop : tie.MeasureT-loop
 μ-loop net₀ at cells from i₀ net i = 16 - i
 
 loop-holds : tie.Need-loop-holds Inv-loop μ-loop
-loop-holds c = (omega arith, refl, fill-none _ _)
+loop-holds c = (omega arith, refl, none-yet _ _)
 
 add-net : tie.Need-add-net Inv-loop μ-loop
 add-net c = search needs

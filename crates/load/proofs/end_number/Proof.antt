@@ -1,10 +1,10 @@
 -- `load::end_number` meets its contract. Assumes nothing.
-use mathlib.Core.Path.{refl}
-use borrow.Author.Tests.{eq-eqb, ne-eqb}
-use borrow.Author.Needs.{needs}
-use Rattle.load.proofs.Forms.{unmarked-as}
-use Rattle.load.specs.Steps.{endNumber}
+use Rattle.rows.proofs.Tests.{told}
 use Rattle.nodes.proofs.Pick.{onTrue, onFalse}
+use Rattle.load.specs.Steps.{endNumber}
+use borrow.Author.Tests.{eq-eqb, ne-eqb}
+use mathlib.Core.Path.{refl}
+use borrow.Author.Needs.{needs}
 use Rattle.load.proofs.end_number.Statement.{statement}
 use Rattle.load.proofs.end_number.Tie as tie
 
@@ -12,20 +12,16 @@ returns : tie.Need-returns
 unfolding endNumber
 returns c = onFalse _ (ne-eqb _ _ (c .if1 .taken)) refl
 
-mark-if-requires : tie.Need-mark-if-requires
-mark-if-requires c κs = search needs
-
 any-unmarked-requires : tie.Need-any-unmarked-requires
 any-unmarked-requires c κs = search needs
 
 returns-2 : tie.Need-returns-2
 unfolding endNumber
-returns-2 c = onTrue _ (eq-eqb _ _ (c .before .before .before .before .if1 .left)) (onTrue _ (unmarked-as _ (c .before .before .mark-if .ensures) (c .before .any-unmarked .ensures) (c .if2 .taken)) refl)
+returns-2 c = onTrue _ (eq-eqb _ _ (c .before .before .if1 .left)) (onTrue _ (told (c .before .any-unmarked .ensures) (c .if2 .taken)) refl)
 
 returns-3 : tie.Need-returns-3
 unfolding endNumber
-returns-3 c = onTrue _ (eq-eqb _ _ (c .before .before .before .before .if1 .left)) (onFalse _ (unmarked-as _ (c .before .before .mark-if .ensures) (c .before .any-unmarked .ensures) (c .if2 .left)) refl)
+returns-3 c = onTrue _ (eq-eqb _ _ (c .before .before .if1 .left)) (onFalse _ (told (c .before .any-unmarked .ensures) (c .if2 .left)) refl)
 
 pub end-number-spec : {M : Type 1} → statement M
-end-number-spec =
-    tie.close (tie.spec returns mark-if-requires any-unmarked-requires returns-2 returns-3)
+end-number-spec = tie.close (tie.spec returns any-unmarked-requires returns-2 returns-3)

@@ -1,26 +1,27 @@
 -- `masks::make_masks` meets its contract. Assumes nothing.
+use Rattle.masks.proofs.Notes.{Blank, blank-all, masks-none, blank-more, masks-more, masks-rest}
+use Rattle.masks.specs.Masks.{Masks}
+use borrow.Author.Needs.{needs}
+use native.Mathlib.Omega.{arith}
 use mathlib.Core.Path.{_≡_}
 use Prim.Native.Nat.{_≤_, _-_}
-use native.Mathlib.Omega.{arith}
-use borrow.Author.Count.{below-none}
-use borrow.Author.Needs.{needs}
-use Rattle.masks.specs.Formed.{nodes}
-use Rattle.masks.specs.Masks.{Masks}
-use Rattle.masks.proofs.Notes.{masks-more}
 use Rattle.masks.proofs.make_masks.Statement.{statement}
 use Rattle.masks.proofs.make_masks.Tie as tie
 
 abbrev Inv-loop : tie.InvT-loop
-Inv-loop ws us₀ n₀ us n = (n ≤ nodes) × Masks ws us n
+Inv-loop ws us₀ count n₀ us n = (n ≤ count) × Masks ws us n × Blank us n
 
 abbrev μ-loop : tie.MeasureT-loop
-μ-loop ws us₀ n₀ us n = nodes - n
+μ-loop ws us₀ count n₀ us n = count - n
+
+clear-requires : tie.Need-clear-requires Inv-loop μ-loop
+clear-requires c κs = search needs
 
 loop-holds : tie.Need-loop-holds Inv-loop μ-loop
-loop-holds c = (omega arith, record { long = c .pre .1; mask = below-none _ })
+loop-holds c = (omega arith, masks-none (c .clear .ensures), blank-all (c .clear .ensures))
 
 mask-of-requires : tie.Need-mask-of-requires Inv-loop μ-loop
-mask-of-requires c κs = (search needs, c .before .before .before .pre .0 .node (c .before .before .loop .n) (search needs))
+mask-of-requires c κs = (search needs, c .before .before .before .before .before .pre .0 .node (c .before .before .loop .n) (search needs))
 
 mul-us : tie.Need-mul-us Inv-loop μ-loop
 mul-us c = search needs
@@ -35,13 +36,10 @@ loop-less : tie.Need-loop-less Inv-loop μ-loop
 loop-less c = search needs
 
 loop-again : tie.Need-loop-again Inv-loop μ-loop
-loop-again c =
-    let b3 = c .before .before .before in
-    let b4 = b3 .before in
-    (omega arith, masks-more (search needs) (b4 .pre .0 .node (b3 .loop .n) (search needs)) (b3 .loop .inv .1) (c .mask-of .ensures))
+loop-again c = (omega arith, masks-more (search needs) (c .before .before .before .before .before .before .pre .0 .node (c .before .before .before .loop .n) (search needs)) (c .before .before .before .loop .inv .1) (c .mask-of .ensures), blank-more (c .mask-of .result) (c .before .before .before .loop .inv .2))
 
 returns : tie.Need-returns Inv-loop μ-loop
-returns c = let e : c .before .loop .n ≡ nodes = omega arith in rw e at (c .before .loop .inv .1)
+returns c = let e : c .before .loop .n ≡ c .before .before .before .before .args .count = omega (arith, c .before .loop .inv .0) in masks-rest (c .before .before .before .before .pre .3) (rw e at (c .before .loop .inv .1)) (rw e at (c .before .loop .inv .2))
 
 pub make-masks-spec : {M : Type 1} → statement M
 make-masks-spec =
@@ -49,6 +47,7 @@ make-masks-spec =
     (tie.spec
     Inv-loop
     μ-loop
+    clear-requires
     loop-holds
     mask-of-requires
     mul-us

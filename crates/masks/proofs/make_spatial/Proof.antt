@@ -1,20 +1,19 @@
 -- `masks::make_spatial` meets its contract. Assumes nothing.
+use Rattle.masks.proofs.Notes.{spatials-more}
+use Rattle.masks.specs.Masks.{Spatials}
+use borrow.Author.Needs.{needs}
+use borrow.Author.Count.{below-none}
+use native.Mathlib.Omega.{arith}
 use mathlib.Core.Path.{_≡_}
 use Prim.Native.Nat.{_≤_, _-_}
-use native.Mathlib.Omega.{arith}
-use borrow.Author.Count.{below-none}
-use borrow.Author.Needs.{needs}
-use Rattle.masks.specs.Formed.{nodes}
-use Rattle.masks.specs.Masks.{Spatials}
-use Rattle.masks.proofs.Notes.{spatials-more}
 use Rattle.masks.proofs.make_spatial.Statement.{statement}
 use Rattle.masks.proofs.make_spatial.Tie as tie
 
 abbrev Inv-loop : tie.InvT-loop
-Inv-loop ws sp₀ n₀ sp n = (n ≤ nodes) × Spatials ws sp n
+Inv-loop ws sp₀ count n₀ sp n = (n ≤ count) × Spatials ws sp n
 
 abbrev μ-loop : tie.MeasureT-loop
-μ-loop ws sp₀ n₀ sp n = nodes - n
+μ-loop ws sp₀ count n₀ sp n = count - n
 
 loop-holds : tie.Need-loop-holds Inv-loop μ-loop
 loop-holds c = (omega arith, record { long = c .pre .1; mark = below-none _ })
@@ -32,13 +31,10 @@ loop-less : tie.Need-loop-less Inv-loop μ-loop
 loop-less c = search needs
 
 loop-again : tie.Need-loop-again Inv-loop μ-loop
-loop-again c =
-    let b3 = c .before .before .before in
-    let b4 = b3 .before in
-    (omega arith, spatials-more (search needs) (b4 .pre .0 .node (b3 .loop .n) (search needs)) (b3 .loop .inv .1) (c .spatial-of .ensures))
+loop-again c = (omega arith, spatials-more (search needs) (c .before .before .before .before .pre .0 .node (c .before .before .before .loop .n) (search needs)) (c .before .before .before .loop .inv .1) (c .spatial-of .ensures))
 
 returns : tie.Need-returns Inv-loop μ-loop
-returns c = let e : c .before .loop .n ≡ nodes = omega arith in rw e at (c .before .loop .inv .1)
+returns c = let e : c .before .loop .n ≡ c .before .before .args .count = omega (arith, c .before .loop .inv .0) in rw e at (c .before .loop .inv .1)
 
 pub make-spatial-spec : {M : Type 1} → statement M
 make-spatial-spec =

@@ -1,54 +1,46 @@
--- `nodes::any_beyond` meets its contract. The invariant: what is left gives what the whole gives. Assumes nothing.
-use mathlib.Core.Path.{_≡_, refl}
-use Prim.Native.Nat.{_-_}
-use lib.ListN.{length, drop}
+-- `nodes::any_beyond` meets its contract. Assumes nothing.
+use Rattle.nodes.proofs.Kids.{no-child, beyond-1, beyond-2, beyond-3, beyond-4}
 use borrow.Author.Needs.{needs}
-use Rattle.nodes.proofs.Walk.{none-beyond, is-beyond, not-beyond}
-use Rattle.program.specs.Table.{beyond}
 use Rattle.nodes.proofs.any_beyond.Statement.{statement}
 use Rattle.nodes.proofs.any_beyond.Tie as tie
 
-abbrev Inv-loop : tie.InvT-loop
-Inv-loop ks n i₀ i = beyond n ks ≡ beyond n (drop i ks)
+returns : tie.Need-returns
+returns c = no-child _ (c .before .before .args .x) (c .if1 .taken)
 
-abbrev μ-loop : tie.MeasureT-loop
-μ-loop ks n i₀ i = length ks - i
+beyond-at-requires : tie.Need-beyond-at-requires
+beyond-at-requires c κs = search needs
 
-loop-holds : tie.Need-loop-holds Inv-loop μ-loop
-loop-holds c = refl
+returns-2 : tie.Need-returns-2
+returns-2 c = beyond-1 _ (c .before .before .before .before .before .args .x) (c .before .beyond-at .ensures) (c .if2 .taken)
 
-get-requires : tie.Need-get-requires Inv-loop μ-loop
-get-requires c κs = search needs
+beyond-at-requires-2 : tie.Need-beyond-at-requires-2
+beyond-at-requires-2 c κs = search needs
 
-cast-k : tie.Need-cast-k Inv-loop μ-loop
-cast-k c = search needs
+returns-3 : tie.Need-returns-3
+returns-3 c = beyond-2 _ (c .before .before .before .before .before .before .before .before .args .x) (c .before .before .before .before .beyond-at .ensures) (c .before .before .before .if2 .left) (c .before .beyond-at2 .ensures) (c .if3 .taken)
 
-returns : tie.Need-returns Inv-loop μ-loop
-returns c = is-beyond _ _ _ (c .before .before .loop-test .taken) (c .before .get .ensures) _ (c .before .before .before .loop .inv) (c .if1 .taken)
+beyond-at-requires-3 : tie.Need-beyond-at-requires-3
+beyond-at-requires-3 c κs = search needs
 
-add-i : tie.Need-add-i Inv-loop μ-loop
-add-i c = search needs
+returns-4 : tie.Need-returns-4
+returns-4 c = beyond-3 _ (c .before .before .before .before .before .before .before .before .before .before .before .args .x) (c .before .before .before .before .before .before .before .beyond-at .ensures) (c .before .before .before .before .before .before .if2 .left) (c .before .before .before .before .beyond-at2 .ensures) (c .before .before .before .if3 .left) (c .before .beyond-at3 .ensures) (c .if4 .taken)
 
-loop-less : tie.Need-loop-less Inv-loop μ-loop
-loop-less c = search needs
+beyond-at-requires-4 : tie.Need-beyond-at-requires-4
+beyond-at-requires-4 c κs = search needs
 
-loop-again : tie.Need-loop-again Inv-loop μ-loop
-loop-again c = not-beyond _ _ _ (c .before .before .loop-test .taken) (c .before .get .ensures) _ (c .before .before .before .loop .inv) (c .if1 .left)
-
-returns-2 : tie.Need-returns-2 Inv-loop μ-loop
-returns-2 c = none-beyond _ _ (c .loop-test .left) _ (c .before .loop .inv)
+returns-5 : tie.Need-returns-5
+returns-5 c = beyond-4 _ (c .before .before .before .before .before .before .before .before .before .before .before .before .before .args .x) (c .before .before .before .before .before .before .before .before .before .beyond-at .ensures) (c .before .before .before .before .before .before .before .before .if2 .left) (c .before .before .before .before .before .before .beyond-at2 .ensures) (c .before .before .before .before .before .if3 .left) (c .before .before .before .beyond-at3 .ensures) (c .before .before .if4 .left) (c .beyond-at4 .ensures)
 
 pub any-beyond-spec : {M : Type 1} → statement M
 any-beyond-spec =
     tie.close
     (tie.spec
-    Inv-loop
-    μ-loop
-    loop-holds
-    get-requires
-    cast-k
     returns
-    add-i
-    loop-less
-    loop-again
-    returns-2)
+    beyond-at-requires
+    returns-2
+    beyond-at-requires-2
+    returns-3
+    beyond-at-requires-3
+    returns-4
+    beyond-at-requires-4
+    returns-5)

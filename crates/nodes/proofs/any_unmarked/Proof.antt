@@ -9,10 +9,10 @@ use Rattle.nodes.proofs.any_unmarked.Statement.{statement}
 use Rattle.nodes.proofs.any_unmarked.Tie as tie
 
 abbrev Inv-loop : tie.InvT-loop
-Inv-loop n marks k₀ k = (k ≤ 256) × (unmarked k₀ marks ≡ unmarked k marks)
+Inv-loop marks n k₀ k = (k ≤ 256) × (unmarked k₀ marks ≡ unmarked k marks)
 
 abbrev μ-loop : tie.MeasureT-loop
-μ-loop n marks k₀ k = k
+μ-loop marks n k₀ k = k
 
 loop-holds : tie.Need-loop-holds Inv-loop μ-loop
 loop-holds c = (search needs, refl)
@@ -20,17 +20,17 @@ loop-holds c = (search needs, refl)
 sub-k : tie.Need-sub-k Inv-loop μ-loop
 sub-k c = search needs
 
-array-read-if1 : tie.Need-array-read-if1 Inv-loop μ-loop
-array-read-if1 c = search needs
+element-copy-out-if1 : tie.Need-element-copy-out-if1 Inv-loop μ-loop
+element-copy-out-if1 c = search needs
 
 returns : tie.Need-returns Inv-loop μ-loop
-returns c = sym (unmarked-at _ _ _ _ (c .before .loop-test .taken) refl (c .before .before .loop .inv .1) ∙ rw (c .if1 .taken))
+returns c = sym (unmarked-at _ _ _ _ (c .before .before .loop-test .taken) refl (c .before .before .before .loop .inv .1) ∙ rw (c .if1 .taken))
 
 loop-less : tie.Need-loop-less Inv-loop μ-loop
 loop-less c = search needs
 
 loop-again : tie.Need-loop-again Inv-loop μ-loop
-loop-again c = (omega arith, unmarked-at _ _ _ _ (c .before .loop-test .taken) refl (c .before .before .loop .inv .1) ∙ rw (c .if1 .left))
+loop-again c = (omega arith, unmarked-at _ _ _ _ (c .before .before .loop-test .taken) refl (c .before .before .before .loop .inv .1) ∙ rw (c .if1 .left))
 
 returns-2 : tie.Need-returns-2 Inv-loop μ-loop
 returns-2 c = unmarked-none _ _ _ (c .loop-test .left) (c .before .loop .inv .1)
@@ -43,7 +43,7 @@ any-unmarked-spec =
     μ-loop
     loop-holds
     sub-k
-    array-read-if1
+    element-copy-out-if1
     returns
     loop-less
     loop-again

@@ -1,8 +1,8 @@
 -- `nodes::shape_of` meets its contract. Assumes nothing.
-use mathlib.Core.Path.{refl}
-use borrow.Author.Needs.{needs}
-use Rattle.nodes.proofs.Walk.{no-shape}
 use Rattle.nodes.specs.Body.{shapeOf}
+use Rattle.nodes.proofs.Kids.{shape-as}
+use Rattle.nodes.proofs.Walk.{no-shape}
+use borrow.Author.Needs.{needs}
 use Rattle.nodes.proofs.shape_of.Statement.{statement}
 use Rattle.nodes.proofs.shape_of.Tie as tie
 
@@ -10,18 +10,22 @@ returns : tie.Need-returns
 unfolding shapeOf
 returns c = no-shape _ _ (c .if1 .taken)
 
-array-read-t10 : tie.Need-array-read-t10
-array-read-t10 c = search needs
+digit-requires : tie.Need-digit-requires
+digit-requires c κs = search needs
 
-array-read-t13 : tie.Need-array-read-t13
-array-read-t13 c = search needs
+digit-requires-2 : tie.Need-digit-requires-2
+digit-requires-2 c κs = search needs
 
-array-read-t16 : tie.Need-array-read-t16
-array-read-t16 c = search needs
+digit-requires-3 : tie.Need-digit-requires-3
+digit-requires-3 c κs = search needs
+
+if-call-requires : tie.Need-if-call-requires
+if-call-requires c κs = search needs
 
 returns-2 : tie.Need-returns-2
-unfolding shapeOf
-returns-2 c = refl
+returns-2 c = shape-as _ _ (c .before .before .before .before .if1 .left) (c .before .before .before .digit .ensures) (c .before .before .digit2 .ensures) (c .before .digit3 .ensures) (c .if-call .ensures)
 
 pub shape-of-spec : {M : Type 1} → statement M
-shape-of-spec = tie.close (tie.spec returns array-read-t10 array-read-t13 array-read-t16 returns-2)
+shape-of-spec =
+    tie.close
+    (tie.spec returns digit-requires digit-requires-2 digit-requires-3 if-call-requires returns-2)

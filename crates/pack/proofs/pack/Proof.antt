@@ -1,34 +1,34 @@
 -- `pack::pack` meets its contract. Assumes nothing.
-use mathlib.Core.Path.{_≡_}
-use Prim.Native.Nat.{_-_}
-use native.Mathlib.Omega.{arith}
-use borrow.Author.Needs.{needs}
+use Rattle.pack.proofs.Columns.{column-none, column-more}
 use Rattle.pack.proofs.Pass.{Going, begins, fits, goes, packs}
+use Rattle.pack.specs.Packs.{kindOf, itemOf, Column}
+use borrow.Author.Needs.{needs}
+use native.Mathlib.Omega.{arith}
+use Prim.Native.Nat.{_-_}
+use mathlib.Core.Path.{_≡_}
 use Rattle.pack.proofs.pack.Statement.{statement}
 use Rattle.pack.proofs.pack.Tie as tie
 
 abbrev Inv-loop : tie.InvT-loop
-Inv-loop ws₀ t bodies marks n r₀ i₀ ws r i = Going t ws r i
+Inv-loop ws₀ kinds₀ items₀ t bodies marks n r₀ i₀ ws kinds items r i = Going t ws r i × Column kindOf t kinds i × Column itemOf t items i
 
 abbrev μ-loop : tie.MeasureT-loop
-μ-loop ws₀ t bodies marks n r₀ i₀ ws r i = n - i
+μ-loop ws₀ kinds₀ items₀ t bodies marks n r₀ i₀ ws kinds items r i = n - i
 
 clear-requires : tie.Need-clear-requires Inv-loop μ-loop
 clear-requires c κs = c .before .pre .1
 
 body-marks-requires : tie.Need-body-marks-requires Inv-loop μ-loop
-body-marks-requires c κs =
-    let b3 = c .before .before .before in
-    (omega (arith, b3 .pre .0 .defs), λ d h. omega (arith, b3 .pre .0 .bodies d h, b3 .pre .0 .n))
+body-marks-requires c κs = (omega (arith, c .before .before .before .pre .0 .defs), λ d h. omega (arith, c .before .before .before .pre .0 .bodies d h, c .before .before .before .pre .0 .n))
 
 loop-holds : tie.Need-loop-holds Inv-loop μ-loop
-loop-holds c = begins (c .before .before .before .before .args .t1) (c .before .before .before .before .pre .0) (c .before .before .clear .ensures)
+loop-holds c = (begins (c .before .before .before .before .args .t1) (c .before .before .before .before .pre .0) (c .before .before .clear .ensures), column-none kindOf (c .before .before .before .before .args .t1) (c .before .before .before .before .pre .2), column-none itemOf (c .before .before .before .before .args .t1) (c .before .before .before .before .pre .3))
 
 mul-x : tie.Need-mul-x Inv-loop μ-loop
 mul-x c = search needs
 
 element-copy-out-x : tie.Need-element-copy-out-x Inv-loop μ-loop
-element-copy-out-x c = omega arith
+element-copy-out-x c = omega (arith, c .before .loop .inv .0 .upto)
 
 flags-of-requires : tie.Need-flags-of-requires Inv-loop μ-loop
 flags-of-requires c κs = search needs
@@ -43,11 +43,7 @@ either-requires : tie.Need-either-requires Inv-loop μ-loop
 either-requires c κs = search needs
 
 word-of-requires : tie.Need-word-of-requires Inv-loop μ-loop
-word-of-requires c κs =
-    let b5 = c .before .before .before .before .before in
-    let b6 = b5 .before in
-    let b11 = b6 .before .before .before .before .before in
-    fits (b11 .args .t1) (b11 .pre .0) (b6 .loop .i) (b5 .loop-test .taken)
+word-of-requires c κs = fits (c .before .before .before .before .before .before .before .before .before .before .before .args .t1) (c .before .before .before .before .before .before .before .before .before .before .before .pre .0) (c .before .before .before .before .before .before .loop .i) (c .before .before .before .before .before .loop-test .taken)
 
 array-read-offends : tie.Need-array-read-offends Inv-loop μ-loop
 array-read-offends c = omega arith
@@ -56,17 +52,19 @@ form-of-requires : tie.Need-form-of-requires Inv-loop μ-loop
 form-of-requires c κs = search needs
 
 offends-requires : tie.Need-offends-requires Inv-loop μ-loop
-offends-requires c κs =
-    let b7 = c .before .before .before .before .before .before .before in
-    let b8 = b7 .before in
-    let b13 = b8 .before .before .before .before .before in
-    fits (b13 .args .t1) (b13 .pre .0) (b8 .loop .i) (b7 .loop-test .taken) .kind
+offends-requires c κs = fits (c .before .before .before .before .before .before .before .before .before .before .before .before .before .args .t1) (c .before .before .before .before .before .before .before .before .before .before .before .before .before .pre .0) (c .before .before .before .before .before .before .before .before .loop .i) (c .before .before .before .before .before .before .before .loop-test .taken) .kind
 
 mul-ws : tie.Need-mul-ws Inv-loop μ-loop
 mul-ws c = omega arith
 
 element-write-ws : tie.Need-element-write-ws Inv-loop μ-loop
-element-write-ws c = omega arith
+element-write-ws c = omega (arith, c .before .before .before .before .before .before .before .before .before .loop .inv .0 .long)
+
+element-write-kinds : tie.Need-element-write-kinds Inv-loop μ-loop
+element-write-kinds c = omega (arith, c .before .before .before .before .before .before .before .before .before .loop .inv .1 .long)
+
+element-write-items : tie.Need-element-write-items Inv-loop μ-loop
+element-write-items c = omega (arith, c .before .before .before .before .before .before .before .before .before .loop .inv .2 .long)
 
 cast-first-bad : tie.Need-cast-first-bad Inv-loop μ-loop
 cast-first-bad c = omega arith
@@ -81,21 +79,10 @@ loop-less : tie.Need-loop-less Inv-loop μ-loop
 loop-less c = search needs
 
 loop-again : tie.Need-loop-again Inv-loop μ-loop
-loop-again c =
-    let b5 = c .before .before .before .before .before in
-    let b10 = b5 .before .before .before .before .before in
-    let b11 = b10 .before in
-    let b15 = b11 .before .before .before .before in
-    goes (b15 .args .t1) (b15 .pre .0) (b10 .loop .inv) (b5 .before .before .before .before .loop-test .taken) (b11 .body-marks .ensures)
-    (b5 .before .flags-of .ensures) (c .before .before .before .before .either .ensures) (c .before .before .before .word-of .ensures)
-    (c .before .before .form-of .ensures) (c .before .offends .ensures) (c .first-bad .ensures)
+loop-again c = (goes (c .before .before .before .before .before .before .before .before .before .before .before .before .before .before .before .args .t1) (c .before .before .before .before .before .before .before .before .before .before .before .before .before .before .before .pre .0) (c .before .before .before .before .before .before .before .before .before .before .loop .inv .0) (c .before .before .before .before .before .before .before .before .before .loop-test .taken) (c .before .before .before .before .before .before .before .before .before .before .before .body-marks .ensures) (c .before .before .before .before .before .before .flags-of .ensures) (c .before .before .before .before .either .ensures) (c .before .before .before .word-of .ensures) (c .before .before .form-of .ensures) (c .before .offends .ensures) (c .first-bad .ensures), column-more kindOf (c .before .before .before .before .before .before .before .before .before .before .before .before .before .before .before .args .t1) (omega arith) (c .before .before .before .before .before .before .before .before .before .before .loop .inv .1), column-more itemOf (c .before .before .before .before .before .before .before .before .before .before .before .before .before .before .before .args .t1) (omega arith) (c .before .before .before .before .before .before .before .before .before .before .loop .inv .2))
 
 returns : tie.Need-returns Inv-loop μ-loop
-returns c =
-    let b = c .before .loop in
-    let s = c .before .before .before .before .before .before in
-    let e : b .i ≡ s .args .t1 .n = omega (arith, b .inv .upto, c .loop-test .left) in
-    packs (s .args .t1) (s .pre .0) (rw e at (b .inv))
+returns c = let e : c .before .loop .i ≡ c .before .before .before .before .before .before .args .t1 .n = omega (arith, c .before .loop .inv .0 .upto, c .loop-test .left) in (packs (c .before .before .before .before .before .before .args .t1) (c .before .before .before .before .before .before .pre .0) (rw e at (c .before .loop .inv .0)), rw e at (c .before .loop .inv .1), rw e at (c .before .loop .inv .2))
 
 pub pack-spec : {M : Type 1} → statement M
 pack-spec =
@@ -118,6 +105,8 @@ pack-spec =
     offends-requires
     mul-ws
     element-write-ws
+    element-write-kinds
+    element-write-items
     cast-first-bad
     first-bad-requires
     add-i

@@ -37,28 +37,17 @@ element-copy-out-walk c = search needs
 walk-requires : tie.Need-walk-requires Inv-loop μ-loop
 walk-requires c κs = (c .before .wide .ensures .1, c .before .before .before .before .before .pre .0)
 
-lower-requires : tie.Need-lower-requires Inv-loop μ-loop
-lower-requires c κs = search needs
-
 loop-less : tie.Need-loop-less Inv-loop μ-loop
 loop-less c = search needs
 
 loop-again : tie.Need-loop-again Inv-loop μ-loop
-loop-again c =
-    let b3 = c .before .before .before in
-    let b6 = b3 .before .before .before in
-    (omega arith, λ t h. let e : b6 .loop .d ≡ (b6 .loop .d - 1) + 1 = omega arith in more-misread t h (b6 .loop .d - 1) (omega arith) (rw (b3 .wide .ensures .0) at (c .before .walk .ensures)) (rw e at (b6 .loop .inv .1 t h)) (c .lower .ensures))
+loop-again c = (omega arith, λ t h. let e : c .before .before .before .before .before .loop .d ≡ (c .before .before .before .before .before .loop .d - 1) + 1 = omega arith in more-misread t h (c .before .before .before .before .before .loop .d - 1) (omega arith) (rw (c .before .before .wide .ensures .0) at (c .walk .ensures)) (rw e at (c .before .before .before .before .before .loop .inv .1 t h)))
 
 walk-requires-2 : tie.Need-walk-requires-2 Inv-loop μ-loop
 walk-requires-2 c κs = (c .before .before .pre .2, c .before .before .pre .0)
 
-lower-requires-2 : tie.Need-lower-requires-2 Inv-loop μ-loop
-lower-requires-2 c κs = search needs
-
 returns : tie.Need-returns Inv-loop μ-loop
-returns c =
-    let b3 = c .before .before .before in
-    λ t h. let e : b3 .loop .d ≡ 0 = omega arith in all-trees t h (c .before .walk2 .ensures) (rw e at (b3 .loop .inv .1 t h)) (c .lower2 .ensures) .is
+returns c = λ t h. let e : c .before .before .loop .d ≡ 0 = omega arith in all-trees t h (c .walk2 .ensures) (rw e at (c .before .before .loop .inv .1 t h)) .is
 
 pub misread-lowest-spec : {M : Type 1} → statement M
 misread-lowest-spec =
@@ -72,9 +61,7 @@ misread-lowest-spec =
     wide-requires
     element-copy-out-walk
     walk-requires
-    lower-requires
     loop-less
     loop-again
     walk-requires-2
-    lower-requires-2
     returns)

@@ -4,12 +4,13 @@ use native.Mathlib.Omega.{arith}
 use borrow.Author.Count.{below-none}
 use borrow.Author.Needs.{needs}
 use Rattle.scopes.specs.Uses.{Marks, Passed}
-use Rattle.scopes.proofs.Calls.{no-marks, more-marks, passes, stops, ends}
+use Rattle.scopes.proofs.Calls.{no-marks, more-marks, same-marks, passes-over, passes, stops, ends}
 use Rattle.scopes.proofs.use_offends.Statement.{statement}
 use Rattle.scopes.proofs.use_offends.Tie as tie
 
 abbrev Inv-loop : tie.InvT-loop
-Inv-loop kinds items counts bodies sp count no' called₀ n₀ called n = Marks kinds items called n × (n ≤ count) × Passed kinds items counts bodies sp count n
+Inv-loop kinds items counts bodies sp count no' called₀ n₀ called n =
+    Marks kinds items called n × (n ≤ count) × Passed kinds items counts bodies sp count n
 
 abbrev μ-loop : tie.MeasureT-loop
 μ-loop kinds items counts bodies sp count no' called₀ n₀ called n = count - n
@@ -22,6 +23,15 @@ cast-i c = search needs
 
 element-copy-out-kind : tie.Need-element-copy-out-kind Inv-loop μ-loop
 element-copy-out-kind c = search needs
+
+add-n : tie.Need-add-n Inv-loop μ-loop
+add-n c = search needs
+
+loop-less : tie.Need-loop-less Inv-loop μ-loop
+loop-less c = search needs
+
+loop-again : tie.Need-loop-again Inv-loop μ-loop
+loop-again c = (same-marks (c .before .before .before .loop .inv .0) (c .if1 .taken), omega arith, passes-over (c .before .before .before .loop .inv .2) (c .before .before .loop-test .taken) (c .if1 .taken))
 
 element-copy-out-wide : tie.Need-element-copy-out-wide Inv-loop μ-loop
 element-copy-out-wide c = search needs
@@ -48,14 +58,7 @@ offends-by-requires : tie.Need-offends-by-requires Inv-loop μ-loop
 offends-by-requires c κs = search needs
 
 returns : tie.Need-returns Inv-loop μ-loop
-returns c =
-    let b4 = c .before .before .before .before in
-    let b6 = b4 .before .before in
-    let b9 = b6 .before .before .before in
-    let b10 = b9 .before in
-    let b11 = b10 .before in
-    stops (b10 .loop .inv .0) (b10 .loop .inv .2) (b9 .loop-test .taken) (b6 .wide .ensures .1) (b6 .wide .ensures .0) (b4 .wide2 .ensures .0)
-    (c .before .offends-by .ensures) (c .if1 .taken) (b11 .pre)
+returns c = stops (c .before .before .before .before .before .before .before .before .before .before .before .loop .inv .0) (c .before .before .before .before .before .before .before .before .before .before .before .loop .inv .2) (c .before .before .before .before .before .before .before .before .before .before .loop-test .taken) (c .before .before .before .before .before .before .wide .ensures .1) (c .before .before .before .before .before .before .wide .ensures .0) (c .before .before .before .before .wide2 .ensures .0) (c .before .offends-by .ensures) (c .if2 .taken) (c .before .before .before .before .before .before .before .before .before .before .before .before .pre)
 
 array-read-or-call : tie.Need-array-read-or-call Inv-loop μ-loop
 array-read-or-call c = search needs
@@ -66,23 +69,14 @@ or-call-requires c κs = search needs
 array-write-called : tie.Need-array-write-called Inv-loop μ-loop
 array-write-called c = search needs
 
-add-n : tie.Need-add-n Inv-loop μ-loop
-add-n c = search needs
+add-n-2 : tie.Need-add-n-2 Inv-loop μ-loop
+add-n-2 c = search needs
 
-loop-less : tie.Need-loop-less Inv-loop μ-loop
-loop-less c = search needs
+loop-less-2 : tie.Need-loop-less-2 Inv-loop μ-loop
+loop-less-2 c = search needs
 
-loop-again : tie.Need-loop-again Inv-loop μ-loop
-loop-again c =
-    let b2 = c .before .before in
-    let b5 = b2 .before .before .before in
-    let b7 = b5 .before .before in
-    let b10 = b7 .before .before .before in
-    let b11 = b10 .before in (
-      more-marks (b11 .loop .inv .0) (b7 .wide .ensures .1) (b7 .wide .ensures .0) (c .or-call .ensures),
-      omega arith,
-      passes (b11 .loop .inv .0) (b11 .loop .inv .2) (b10 .loop-test .taken) (b7 .wide .ensures .1) (b7 .wide .ensures .0) (b5 .wide2 .ensures .0) (b2 .offends-by .ensures) (c .before .if1 .left),
-    )
+loop-again-2 : tie.Need-loop-again-2 Inv-loop μ-loop
+loop-again-2 c = (more-marks (c .before .before .before .before .before .before .before .before .before .before .before .before .loop .inv .0) (c .before .before .before .before .before .before .before .wide .ensures .1) (c .before .before .before .before .before .before .before .wide .ensures .0) (c .or-call .ensures), omega arith, passes (c .before .before .before .before .before .before .before .before .before .before .before .before .loop .inv .0) (c .before .before .before .before .before .before .before .before .before .before .before .before .loop .inv .2) (c .before .before .before .before .before .before .before .before .before .before .before .loop-test .taken) (c .before .before .before .before .before .before .before .wide .ensures .1) (c .before .before .before .before .before .before .before .wide .ensures .0) (c .before .before .before .before .before .wide2 .ensures .0) (c .before .before .offends-by .ensures) (c .before .if2 .left))
 
 returns-2 : tie.Need-returns-2 Inv-loop μ-loop
 returns-2 c = ends (c .before .loop .inv .2) (c .loop-test .left)
@@ -96,6 +90,9 @@ use-offends-spec =
     loop-holds
     cast-i
     element-copy-out-kind
+    add-n
+    loop-less
+    loop-again
     element-copy-out-wide
     wide-requires
     element-copy-out-wide-2
@@ -108,7 +105,7 @@ use-offends-spec =
     array-read-or-call
     or-call-requires
     array-write-called
-    add-n
-    loop-less
-    loop-again
+    add-n-2
+    loop-less-2
+    loop-again-2
     returns-2)

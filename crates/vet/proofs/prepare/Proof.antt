@@ -26,7 +26,8 @@ make-masks-requires : tie.Need-make-masks-requires
 make-masks-requires c κs =
     let b4 = c .before .before .before .before in
     let s = b4 .before .before .before .before .before .before .before in
-    (b4 .tree-rows .ensures .runs (c .before .before .if2 .left) .packed .formed, s .pre .1)
+    let q = b4 .tree-rows .ensures .runs (c .before .before .if2 .left) .packed in
+    (q .formed, s .pre .1, q .good .n, q .empty)
 
 cast-t12 : tie.Need-cast-t12
 cast-t12 c = search needs

@@ -1,4 +1,0 @@
-pub mod Tests
-pub mod First
-pub mod Blocks
-pub mod Stores

@@ -1,3 +1,0 @@
-pub mod Trees
-pub mod Laws
-pub mod Counter

@@ -1,0 +1,74 @@
+-- `fresh::fresh` meets its contract. Assumes nothing.
+use mathlib.Core.Path.{_≡_, refl, _∙_}
+use Prim.Native.Nat.{_-_, _*_, _≤_}
+use native.Mathlib.Omega.{arith}
+use lib.ListN.{length}
+use denote.Ref.{now}
+use borrow.Author.Tests.{eq-eqb, ne-eqb}
+use borrow.Author.Needs.{needs}
+use Rattle.network.specs.Network.{copies, freshBlock, freshCall}
+use Rattle.network.specs.Cells.{store}
+use Rattle.network.proofs.Stores.{nothing-yet}
+use Rattle.fresh.proofs.Stores.{copy-more, length-block, made-fresh, both}
+use Rattle.fresh.proofs.fresh.Statement.{statement}
+use Rattle.fresh.proofs.fresh.Tie as tie
+
+abbrev Inv-loop : tie.InvT-loop
+Inv-loop net₀ device₀ net device = (device ≤ 16) × (length net ≡ length net₀) × (net ≡ store net₀ 0 (copies device freshBlock))
+
+abbrev μ-loop : tie.MeasureT-loop
+μ-loop net₀ device₀ net device = 16 - device
+
+refused-requires : tie.Need-refused-requires Inv-loop μ-loop
+refused-requires c κs = search needs
+
+returns : tie.Need-returns Inv-loop μ-loop
+unfolding freshCall
+returns c = rw (ne-eqb _ _ (c .before .if1 .taken)) (both (c .refused .ensures) refl)
+
+loop-holds : tie.Need-loop-holds Inv-loop μ-loop
+unfolding copies
+loop-holds c = (omega arith, refl, nothing-yet (now (c .before .args .net)) 0)
+
+mul-fresh-block : tie.Need-mul-fresh-block Inv-loop μ-loop
+mul-fresh-block c = omega arith
+
+fresh-block-requires : tie.Need-fresh-block-requires Inv-loop μ-loop
+fresh-block-requires c κs = omega arith
+
+add-device : tie.Need-add-device Inv-loop μ-loop
+add-device c = omega arith
+
+loop-less : tie.Need-loop-less Inv-loop μ-loop
+loop-less c = omega arith
+
+loop-again : tie.Need-loop-again Inv-loop μ-loop
+loop-again c = (omega arith, c .net .given ∙ c .before .before .before .before .loop .inv .1, c .before .fresh-block .ensures ∙ copy-more (now (c .before .before .before .before .before .before .args .net)) (c .before .before .before .before .loop .net) 0 (c .before .before .before .before .loop .device * 529) (c .before .before .before .before .loop .device) 529 freshBlock length-block (c .before .before .before .before .loop .inv .2) (omega arith))
+
+accepted-requires : tie.Need-accepted-requires Inv-loop μ-loop
+accepted-requires c κs = search needs
+
+same-length : tie.Need-same-length Inv-loop μ-loop
+same-length c = c .before .before .loop .inv .1
+
+returns-2 : tie.Need-returns-2 Inv-loop μ-loop
+unfolding freshCall
+returns-2 c = rw (eq-eqb _ _ (c .before .before .before .if1 .left)) (both (c .accepted .ensures) (made-fresh (now (c .before .before .before .before .args .net)) (c .before .before .loop .net) (c .before .before .loop .device) (omega arith) (c .before .before .before .if1 .left) (c .before .before .loop .inv .2)))
+
+pub fresh-spec : {M : Type 1} → statement M
+fresh-spec =
+    tie.close
+    (tie.spec
+    Inv-loop
+    μ-loop
+    refused-requires
+    returns
+    loop-holds
+    mul-fresh-block
+    fresh-block-requires
+    add-device
+    loop-less
+    loop-again
+    accepted-requires
+    same-length
+    returns-2)

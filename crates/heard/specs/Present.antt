@@ -1,0 +1,11 @@
+-- Where a field of what was heard has a number. Definitions only: nothing is assumed.
+use mathlib.Core.Bool.{Bool, false, not, cond}
+use lib.IntN.{ℤ, pos}
+use Rattle.number.specs.Number.{mark, eqZ}
+
+-- a cell holds a number; a device is heard with v and has the distance d
+abbrev pub isPresent : ℤ → Bool
+isPresent z = not (eqZ z mark)
+
+abbrev pub isRanged : ℤ → ℤ → Bool
+isRanged v d = cond (eqZ v (pos 0)) (isPresent d) false

@@ -1,0 +1,123 @@
+// The network's soundness test. Devices, rows and slots are counted from 0 here.
+ghost use mathlib.Core.Path.{_≡_};
+ghost use mathlib.Core.Bool.{true};
+ghost use Prim.Native.Nat.{_+_, _≤_, _<_};
+ghost use lib.ListN.{length};
+ghost use Rattle.verdict.specs.Pair.{pair};
+ghost use Rattle.network.specs.Network.{lowestUnsound, soundness};
+ghost use Rattle.scan.specs.Pass.{Passed, RowIs, Pending, Rows, placeOf};
+
+const CELLS: usize = 8464;
+
+const MARK: i32 = -2147483648;
+
+// 0 only where x is y: a number, so that many are joined by `|` with no branch.
+fn differs(x: i32, y: i32) -> u32
+    ensures { λ r. ⌜ ((r ≡ 0) → x ≡ y) ⌝ }
+{
+    if x == y {
+        return 0;
+    }
+    1
+}
+
+// Whether the row at `at` is `first` and fifteen absent cells. It leaves at no cell, so that it is compiled to vectors.
+fn row_is(net: &[i32], at: usize, first: i32) -> bool
+    requires { ⌜ at + 16 ≤ length (now net) ⌝ }
+    ensures { λ r. ⌜ ((r ≡ true) → RowIs (now (net .entry)) at first 16) ⌝ }
+{
+    let mut other: u32 = differs(net[at], first);
+    let mut i: usize = 1;
+    while i < 16 {
+        other = other | differs(net[at + i], MARK);
+        i += 1;
+    }
+    other == 0
+}
+
+// Whether the row at `at` has nothing pending and no slot, or one message: enough but for a device's row to itself.
+fn pending_row(net: &[i32], at: usize) -> bool
+    requires { ⌜ at + 16 ≤ length (now net) ⌝ }
+    ensures { λ r. ⌜ ((r ≡ true) → Pending (now (net .entry)) at) ⌝ }
+{
+    if row_is(net, at, 0) {
+        return true;
+    }
+    net[at] == 1
+}
+
+// The distances and the pending rows of the device whose cells are from `at` on, its own among them.
+fn rows_sound(net: &[i32], at: usize) -> bool
+    requires { ⌜ at + 529 ≤ length (now net) ⌝ }
+    ensures { λ r. ⌜ ((r ≡ true) → Rows (now (net .entry)) at 16) ⌝ }
+{
+    let mut b: usize = 0;
+    while b < 16 {
+        if !rules::distance_sound(net[at + 17 + 16 * b]) {
+            return false;
+        }
+        if !pending_row(net, at + 273 + 16 * b) {
+            return false;
+        }
+        b += 1;
+    }
+    true
+}
+
+// Whether all cells of a device are sound, without telling which is not. Only `true` is relied on.
+fn block_sound(net: &[i32], device: usize) -> bool
+    requires { ⌜ (length (now net) ≡ 8464) × (device < 16) ⌝ }
+    ensures { λ r. ⌜ ((r ≡ true) → Passed (now (net .entry)) device 529) ⌝ }
+{
+    let at = device * 529;
+    if !rules::sensors_sound(net, device) {
+        return false;
+    }
+    if !rows_sound(net, at) {
+        return false;
+    }
+    if !row_is(net, at + 17 + 16 * device, MARK) {
+        return false;
+    }
+    row_is(net, at + 273 + 16 * device, 0)
+}
+
+// The lowest unsound cell, or the number of cells where all are sound. The search goes into a device that the pass refused.
+fn first_unsound(net: &[i32]) -> usize
+    requires { ⌜ length (now net) ≡ 8464 ⌝ }
+    ensures { λ r. ⌜ lowestUnsound 1 16 (now (net .entry)) ≡ placeOf r ⌝ }
+{
+    let mut bad: usize = CELLS;
+    'search: for device in 0..16 {
+        if block_sound(net, device) {
+            continue 'search;
+        }
+        if !rules::sensors_sound(net, device) {
+            bad = device * 529 + 16;
+            break 'search;
+        }
+        for row in 0..32 {
+            for slot in 0..16 {
+                if !rules::cell_sound(net, device, row, slot) {
+                    bad = device * 529 + 17 + row * 16 + slot;
+                    break 'search;
+                }
+            }
+        }
+    }
+    bad
+}
+
+// Refusal 11 with the lowest unsound cell, or place 0 for a wrong length.
+pub fn soundness(net: &[i32]) -> verdict::Verdict
+    ensures { λ r. ⌜ pair r ≡ soundness (now (net .entry)) ⌝ }
+{
+    if net.len() != CELLS {
+        return verdict::refused(11, 0);
+    }
+    let bad = first_unsound(net);
+    if bad == CELLS {
+        return verdict::accepted();
+    }
+    verdict::refused(11, bad)
+}
