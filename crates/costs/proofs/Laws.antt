@@ -12,9 +12,9 @@ use borrow.Author.Tests.{eqb-true, eqb-false, ne-eqb, ltb-true, ltb-false, lt-lt
 use Rattle.program.specs.Tree.{cost}
 use Rattle.words.specs.Word.{form, word}
 use Rattle.words.specs.Trees.{treeAt}
-use Rattle.masks.specs.Formed.{nodes, width, operand, part, Formed}
-use Rattle.masks.proofs.Trees.{View, is-0, is-1, is-2, is-3, is-4, is-5, is-6, is-7, is-8, is-9, is-10, is-16, is-17, is-18, is-19, view}
-use Rattle.masks.proofs.Leaves.{Leaf, leaf-0, leaf-1, leaf-2, leaf-17}
+use Rattle.operands.specs.Formed.{nodes, width, operand, part, Formed}
+use Rattle.operands.proofs.Trees.{View, is-0, is-1, is-2, is-3, is-4, is-5, is-6, is-7, is-8, is-9, is-10, is-16, is-17, is-18, is-19, view}
+use Rattle.operands.proofs.Leaves.{Leaf, leaf-0, leaf-1, leaf-2, leaf-17}
 use Rattle.costs.specs.Costs.{capped, bodyCost, Noted, Asks, Gives}
 
 all-cost : {ws : List ℕ} {n w : ℕ} → View ws n w

@@ -8,7 +8,7 @@ use lib.Dec.{eqb}
 use Rattle.program.specs.Tree.{cost}
 use Rattle.words.specs.Word.{form}
 use Rattle.words.specs.Trees.{treeAt}
-use Rattle.masks.specs.Formed.{nodes, operand, AllFormed}
+use Rattle.operands.specs.Formed.{nodes, operand, AllFormed}
 
 -- costs are counted up to one above "1,000,000"
 abbrev pub capped : ℕ → ℕ

@@ -1,15 +1,15 @@
 // The cost of a program, by recursion over its tree, each body's cost noted once: a tree of more than 2^32 nodes costs no
 // more steps than the table has nodes and operands. Costs are counted up to 1,000,001.
-use masks::form_of;
-use masks::leaf;
-use masks::operand;
-use masks::width_of;
+use operands::leaf;
+use operands::operand;
+use operands::width_of;
+use unpack::form_of;
 ghost use mathlib.Core.Path.{_≡_};
 ghost use Prim.Native.Nat.{_+_, _*_, _<_, _≤_};
 ghost use Rattle.program.specs.Tree.{cost as costOf};
 ghost use Rattle.words.specs.Word.{word};
 ghost use Rattle.words.specs.Trees.{treeAt};
-ghost use Rattle.masks.specs.Formed.{nodes, part as partOf, AllFormed};
+ghost use Rattle.operands.specs.Formed.{nodes, part as partOf, AllFormed};
 ghost use Rattle.costs.specs.Costs.{capped, bodyCost, Asks, Gives};
 
 const NODES: usize = 256;

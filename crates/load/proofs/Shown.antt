@@ -12,7 +12,7 @@ use Rattle.program.specs.Table.{Item, Definition, among, numbers, allNumbers, b
 use Rattle.nodes.specs.declared.Node.{Node}
 use Rattle.nodes.specs.Body.{noNode}
 use Rattle.nodes.specs.Values.{nodeOf}
-use Rattle.nodes.proofs.Marks.{among-append}
+use Rattle.marks.proofs.Marks.{among-append}
 use Rattle.load.specs.declared.Table.{Table}
 use Rattle.load.specs.Loads.{paired, tableOf, nodeAt}
 use Rattle.load.specs.Steps.{put, define}

@@ -14,14 +14,15 @@ use Rattle.program.specs.Table.{Item, child, slot, keeps, among, beyond, number
 use Rattle.program.proofs.Items.{same-items}
 use Rattle.program.proofs.Tests.{either, second}
 use Rattle.nodes.specs.declared.Node.{Node}
-use Rattle.nodes.specs.Agrees.{Agree}
-use Rattle.nodes.specs.Body.{noNode, leadOf, widthOf, kidsOf, itemOf, constantOf, made, nodeIn}
-use Rattle.nodes.specs.Marked.{marked, markIf}
+use Rattle.marks.specs.Agrees.{Agree}
+use Rattle.shapes.specs.Shapes.{leadOf, widthOf, kidsOf}
+use Rattle.nodes.specs.Body.{noNode, itemOf, constantOf, made, nodeIn}
+use Rattle.marks.specs.Marked.{marked, markIf}
 use Rattle.nodes.specs.Ranges.{Ranges}
 use Rattle.nodes.specs.Values.{childrenOf, nodeOf}
 use Rattle.nodes.proofs.Items.{same-kids, few-kids, in-ranges}
 use Rattle.nodes.proofs.Body.{children-made, node-made, node-children, node-slots, node-keeps}
-use Rattle.nodes.proofs.Marks.{same, among-append, set-agrees, if-agrees, marked-agrees}
+use Rattle.marks.proofs.Marks.{same, among-append, set-agrees, if-agrees, marked-agrees}
 use Rattle.rows.specs.Marks.{Marks, withRoot}
 use Rattle.rows.specs.Marks.{withNode as marksWith}
 use Rattle.rows.specs.Shows.{Shows}

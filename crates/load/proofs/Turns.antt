@@ -17,8 +17,8 @@ use Rattle.reader.specs.declared.Field.the-variants.{Whole, Cut, End}
 use Rattle.reader.specs.Field.{fieldAt, fieldsFrom}
 use Rattle.reader.proofs.Laws.{placed, before-end, at-end, found}
 use Rattle.nodes.specs.declared.Node.{Node}
-use Rattle.nodes.specs.Marked.{unmarked}
-use Rattle.nodes.proofs.Marks.{set-agrees, unmarked-is}
+use Rattle.marks.specs.Marked.{unmarked}
+use Rattle.marks.proofs.Marks.{set-agrees, unmarked-is}
 use Rattle.rows.specs.Numbers.{fieldNumber, definitionNumber, mainNumber, nodeNumber}
 use Rattle.rows.specs.Marks.{Marks, withNode, withRoot}
 use Rattle.rows.specs.Reads.{nodeFrom}

@@ -5,7 +5,8 @@ use Prim.Native.Nat.{ℕ, _≤_, _<_}
 use lib.ListN.{length, getD, take}
 use Rattle.program.specs.Table as program
 use Rattle.nodes.specs.declared.Node.{Node}
-use Rattle.nodes.specs.Body.{noNode, leadOf, kidsOf}
+use Rattle.shapes.specs.Shapes.{leadOf, kidsOf}
+use Rattle.nodes.specs.Body.{noNode}
 use Rattle.nodes.specs.Ranges.{Ranges}
 use Rattle.nodes.specs.Values.{nodeOf}
 use Rattle.load.specs.declared.Table.{Table}

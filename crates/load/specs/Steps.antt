@@ -10,7 +10,7 @@ use Rattle.reader.specs.declared.Field.the-variants.{Whole, Cut, End}
 use Rattle.reader.specs.Field.{fieldAt}
 use Rattle.nodes.specs.declared.Node.{Node}
 use Rattle.nodes.specs.Body.{noNode, nodeIn}
-use Rattle.nodes.specs.Marked.{unmarked}
+use Rattle.marks.specs.Marked.{unmarked}
 use Rattle.rows.specs.Marks.{Marks, marksOf, withNode, withRoot}
 use Rattle.rows.specs.Numbers.{fieldNumber}
 use Rattle.rows.specs.Reads.{nodeFrom}

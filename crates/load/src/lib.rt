@@ -111,7 +111,7 @@ fn end_number(left: usize, n: usize, named: &[bool; 256]) -> u32
     if left != 0 {
         return 6;
     }
-    if nodes::any_unmarked(named, n) {
+    if marks::any_unmarked(named, n) {
         return 6;
     }
     0

@@ -1,5 +1,2 @@
-pub mod Leaves
-pub mod Digits
 pub mod Bits
-pub mod Trees
 pub mod Notes

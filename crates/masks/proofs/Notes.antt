@@ -1,42 +1,25 @@
--- What a node's mask and mark are, from those of the nodes that it names. Assumes nothing.
+-- What a node's mask is, from those of the nodes that it names. Assumes nothing.
 use mathlib.Core.Path.{_≡_, refl, sym, ap, subst, _∙_}
-use mathlib.Core.Bool.{Bool, true, false, cond, _||_, or-assoc, or-false, true≢false}
+use mathlib.Core.Bool.{Bool, true, false, cond, _||_, or-assoc, or-false}
 use mathlib.Core.List.{List, [], _∷_, _++_, append-nil}
 use Prim.Native.Nat.{ℕ, _+_, _^_, _<_, _≤_}
 use native.Mathlib.Omega.{arith}
 use lib.ListN.{length, getD, set, replicate, length-set, length-replicate, getD-replicate, List·getD-eq-default}
-use lib.Seq.{getD-set-same, getD-set-other}
+use lib.Seq.{getD-set-other}
 use lib.Dec.{eqb, ltb}
-use borrow.Author.Count.{below-none, below-more}
-use borrow.Author.Tests.{eqb-true, ltb-true, ltb-false}
+use borrow.Author.Count.{below-none}
+use borrow.Author.Tests.{ltb-true, ltb-false}
 use Rattle.program.specs.Table.{among}
-use Rattle.program.specs.Tree.{Expr, nothing, spatial}
+use Rattle.program.specs.Tree.{Expr, nothing}
 use Rattle.round.specs.Round.{reps}
 use Rattle.words.specs.Word.{form, item, word}
 use Rattle.words.specs.Trees.{treeAt}
-use Rattle.masks.specs.Formed.{nodes, width, operand, part, Formed, Empty}
-use Rattle.masks.specs.Masks.{hasBit, Mask, Masks, ownMask, hasBody, bodyMask, partMask, maskOf, Spatials, ownSpatial, partSpatial, spatialOf}
+use Rattle.operands.specs.Formed.{nodes, width, operand, hasBody, part, Formed, Empty}
+use Rattle.operands.proofs.Below.{body-below, set-more}
+use Rattle.operands.proofs.Leaves.{Leaf, leaf-0, leaf-1, leaf-2, leaf-17}
+use Rattle.operands.proofs.Trees.{View, is-0, is-1, is-2, is-3, is-4, is-5, is-6, is-7, is-8, is-9, is-10, is-16, is-17, is-18, is-19, view, tree-0}
+use Rattle.masks.specs.Masks.{hasBit, Mask, Masks, ownMask, bodyMask, partMask, maskOf}
 use Rattle.masks.proofs.Bits.{no-bit, power-bit, or-bit}
-use Rattle.masks.proofs.Trees.{View, is-0, is-1, is-2, is-3, is-4, is-5, is-6, is-7, is-8, is-9, is-10, is-16, is-17, is-18, is-19, view, tree-0}
-
--- ---- what a node names can be looked up
-body-below : {ws : List ℕ} {n : ℕ} → Formed ws n → hasBody (word ws n) ≡ true → operand (word ws n) 4 < n
-body-below {ws} {n} f = go (eqb (form (word ws n)) 8) (eqb (form (word ws n)) 9) refl refl
-  where
-    go : (a b : Bool) → eqb (form (word ws n)) 8 ≡ a → eqb (form (word ws n)) 9 ≡ b → (a || b) ≡ true → operand (word ws n) 4 < n
-    go true b p q e = f .folds (eqb-true (form (word ws n)) 8 p)
-    go false true p q e = f .calls (eqb-true (form (word ws n)) 9 q)
-    go false false p q e = absurd (true≢false (sym e))
-
-module _ {ws : List ℕ} {n : ℕ} (l : n < nodes) (f : Formed ws n) where
-  pub asks-part : (j : ℕ) → j < 4 → (j < 4) × (j < width (word ws n) → operand (word ws n) j < nodes)
-  asks-part j h = (h, λ g. omega (arith, f .operands j h g))
-
-  pub asks-called : form (word ws n) ≡ 9 → operand (word ws n) 4 < nodes
-  asks-called h = omega (arith, f .calls h)
-
-  pub asks-body : hasBody (word ws n) ≡ true → operand (word ws n) 4 < nodes
-  asks-body h = omega (arith, body-below f h)
 
 -- ---- the variables of the reps under a node are its own, its body's and its operands'
 abbrev ownReps : ℕ → List ℕ
@@ -96,13 +79,6 @@ module _ {ws us : List ℕ} {n : ℕ} (f : Formed ws n) (m : Masks ws us n) (v :
       (sym (ap (among v) (all-reps (view f)) ∙ simp among-append))
 
 -- ---- one more node noted
-set-more : {A : Type 0} (P : ℕ → A → Type 0) (l : List A) (i : ℕ) (a d : A) → i < length l
-    → ((k : ℕ) → k < i → P k (getD l k d)) → P i a → (k : ℕ) → k < i + 1 → P k (getD (set l i a) k d)
-set-more P l i a d h all here =
-    below-more (λ (k : ℕ). P k (getD (set l i a) k d)) i
-    (λ k g. subst (P k) (sym (getD-set-other l i k a d (λ e. omega arith))) (all k g))
-    (subst (P i) (sym (getD-set-same l i a d h)) here)
-
 -- what is not noted yet stays 0
 pub record Blank (us : List ℕ) (n : ℕ) : Type 0 where
   pub rest : (k : ℕ) → n ≤ k → getD us k 0 ≡ 0
@@ -143,55 +119,10 @@ masks-rest {ws} {us} {n} empty s blank = record { long = s .long; mask = λ k h.
         let z : form (word ws k) ≡ 0 = rw (empty .rest k m) in
         rw (blank .rest k m, tree-0 ws k z) (no-bit v)
 
--- ---- a node is spatial by its form, by its body where it is a call, and by its operands
-abbrev calledTree : List ℕ → ℕ → Expr
-calledTree ws w = cond (eqb (form w) 9) (treeAt ws (operand w 4)) nothing
-
-all-spatial : {ws : List ℕ} {n w : ℕ} → View ws n w
-    → spatial (treeAt ws n)
-    ≡ ownSpatial w || (spatial (calledTree ws w) || (spatial (part ws w 0) || (spatial (part ws w 1) || (spatial (part ws w 2) || spatial (part ws w 3)))))
-unfolding spatial width
-all-spatial (is-0 h e) = rw (e, h)
-all-spatial (is-1 h e) = rw (e, h)
-all-spatial (is-2 h e) = rw (e, h)
-all-spatial (is-3 h e) = rw (e, h) (simp or-false)
-all-spatial (is-4 h e) = rw (e, h) (simp or-false)
-all-spatial (is-5 h e) = rw (e, h)
-all-spatial (is-6 h e) = rw (e, h) (simp (or-assoc, or-false))
-all-spatial (is-7 h e) = rw (e, h) (simp (or-assoc, or-false))
-all-spatial (is-8 h e) = rw (e, h) (simp or-false)
-all-spatial (is-9 h e) = rw (e, h) (simp or-assoc)
-all-spatial (is-10 h e) = rw (e, h) (simp or-false)
-all-spatial (is-16 h e) = rw (e, h)
-all-spatial (is-17 h e) = rw (e, h)
-all-spatial (is-18 h e) = rw (e, h) (simp (or-assoc, or-false))
-all-spatial (is-19 h e) = rw (e, h) (simp or-false)
-
-module _ {ws : List ℕ} {sp : List Bool} {n : ℕ} (f : Formed ws n) (m : Spatials ws sp n) where
-  named-mark : (b : Bool) (k : ℕ) → (b ≡ true → k < n) → cond b (getD sp k false) false ≡ spatial (cond b (treeAt ws k) nothing)
-  unfolding spatial
-  named-mark true k g = m .mark k (g refl)
-  named-mark false k g = refl
-
-  part-mark : (j : ℕ) → j < 4 → partSpatial sp (word ws n) j ≡ spatial (part ws (word ws n) j)
-  part-mark j h = named-mark (ltb j (width (word ws n))) (operand (word ws n) j) (λ e. f .operands j h (ltb-true j (width (word ws n)) e))
-
-  pub spatial-mark : spatialOf sp (word ws n) ≡ spatial (treeAt ws n)
-  unfolding spatialOf
-  spatial-mark =
-      rw (
-        named-mark (eqb (form (word ws n)) 9) (operand (word ws n) 4) (λ e. f .calls (eqb-true (form (word ws n)) 9 e)),
-        part-mark 0 (omega arith),
-        part-mark 1 (omega arith),
-        part-mark 2 (omega arith),
-        part-mark 3 (omega arith),
-      )
-      (sym (all-spatial (view f)))
-
-pub spatials-more : {ws : List ℕ} {sp : List Bool} {n : ℕ} {m : Bool} → n < nodes → Formed ws n → Spatials ws sp n → m ≡ spatialOf sp (word ws n)
-    → Spatials ws (set sp n m) (n + 1)
-spatials-more {ws} {sp} {n} {m} h f s e =
-    record {
-      long = length-set sp n m ∙ s .long;
-      mark = set-more (λ k t. t ≡ spatial (treeAt ws k)) sp n m false (omega (arith, s .long)) (s .mark) (e ∙ spatial-mark f s);
-    }
+-- ---- a leaf has none
+pub leaf-mask : (us : List ℕ) (w : ℕ) → Leaf w → 0 ≡ maskOf us w
+unfolding maskOf width
+leaf-mask us w (leaf-0 h) = rw h
+leaf-mask us w (leaf-1 h) = rw h
+leaf-mask us w (leaf-2 h) = rw h
+leaf-mask us w (leaf-17 h) = rw h

@@ -10,7 +10,8 @@ use Rattle.program.specs.Table as program
 use Rattle.program.specs.Table.{Item, keeps, slot, child, definition, items, itemsOf, valuesIn, outside, picked, code, numbers}
 use Rattle.program.proofs.Items.{same-items, length-values}
 use Rattle.nodes.specs.Values.{childrenOf, nodeOf}
-use Rattle.nodes.specs.Body.{leadOf, widthOf, kidsOf, itemOf, constantOf, inside, made}
+use Rattle.shapes.specs.Shapes.{leadOf, widthOf, kidsOf, inside}
+use Rattle.nodes.specs.Body.{itemOf, constantOf, made}
 use Rattle.nodes.proofs.Items.{first, head, items-are, width-is, values-are, lead-below, first-values, first-outside, first-child, first-keeps, first-slot, first-definition, head-length, head-is, picked-append, outside-append, children-inside, children-picked, others-picked}
 
 -- the node that program's definitions make of a body

@@ -12,7 +12,8 @@ use Rattle.wire.specs.Wire.{bigFrom, big}
 use Rattle.program.specs.Table.{Item, constant, operator, parameter, variable, keeps, slot, child, definition, itemsOf, width, size, valuesIn, inRange, outside, picked, code}
 use Rattle.nodes.specs.Values.{headOf}
 use Rattle.nodes.specs.Ranges.{Ranges}
-use Rattle.nodes.specs.Body.{leads, kidCounts, leadOf, widthOf, kidsOf, wordOf, itemOf, constantOf, inside}
+use Rattle.shapes.specs.Shapes.{leads, kidCounts, leadOf, widthOf, kidsOf, inside}
+use Rattle.nodes.specs.Body.{wordOf, itemOf, constantOf}
 
 -- the first item by its number
 abbrev firsts : List (List Item)

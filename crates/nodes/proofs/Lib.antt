@@ -1,6 +1,3 @@
-pub mod Pick
-pub mod Walk
+pub mod Parts
 pub mod Items
-pub mod Kids
-pub mod Marks
 pub mod Body

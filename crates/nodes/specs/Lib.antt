@@ -1,5 +1,3 @@
 pub mod Body
-pub mod Marked
-pub mod Agrees
 pub mod Values
 pub mod Ranges

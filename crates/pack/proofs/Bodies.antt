@@ -8,10 +8,10 @@ use lib.ListN.{length, getD, take, replicate, length-replicate, getD-replicate}
 use lib.Dec.{eqb}
 use borrow.Author.Tests.{lt-leb, eq-eqb}
 use Rattle.program.specs.Table.{among, beyond}
-use Rattle.masks.specs.Formed.{nodes}
-use Rattle.nodes.specs.Agrees.{Agree}
-use Rattle.nodes.specs.Marked.{marked, markIf}
-use Rattle.nodes.proofs.Marks.{set-agrees, marked-agrees}
+use Rattle.operands.specs.Formed.{nodes}
+use Rattle.marks.specs.Agrees.{Agree}
+use Rattle.marks.specs.Marked.{marked, markIf}
+use Rattle.marks.proofs.Marks.{set-agrees, marked-agrees}
 
 pub none-agree : Agree (replicate nodes false) []
 unfolding among

@@ -6,7 +6,7 @@ use native.Mathlib.Omega.{arith}
 use lib.ListN.{length, getD, set, length-set}
 use lib.Seq.{getD-set-same, getD-set-other}
 use borrow.Author.Count.{below-none, below-more}
-use Rattle.masks.specs.Formed.{nodes}
+use Rattle.operands.specs.Formed.{nodes}
 use Rattle.nodes.specs.declared.Node.{Node}
 use Rattle.load.specs.declared.Table.{Table}
 use Rattle.load.specs.Loads.{nodeAt}

@@ -9,7 +9,7 @@ use Rattle.program.specs.Table.{Node, Definition}
 use Rattle.program.specs.Tree.{Expr, nothing, treeOf, grown}
 use Rattle.words.specs.Word.{word}
 use Rattle.words.specs.Trees.{made, below, treeAt}
-use Rattle.masks.proofs.Trees.{at-below}
+use Rattle.operands.proofs.Trees.{at-below}
 
 -- the trees of the first k nodes
 abbrev pub firsts : List Definition → List Node → ℕ → List Expr

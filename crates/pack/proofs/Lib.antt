@@ -1,4 +1,3 @@
-pub mod Words
 pub mod Made
 pub mod Grown
 pub mod Tables

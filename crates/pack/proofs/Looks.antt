@@ -10,8 +10,8 @@ use lib.Dec.{eqb, ltb}
 use borrow.Author.Count.{below-none, below-more}
 use borrow.Author.Tests.{eqb-true, eqb-false, ltb-true, ltb-false}
 use Rattle.program.specs.Check.{lowest, offending}
-use Rattle.masks.specs.Formed.{nodes}
-use Rattle.pack.specs.Parts.{firstBad}
+use Rattle.operands.specs.Formed.{nodes}
+use Rattle.sorts.specs.Sorts.{firstBad}
 use Rattle.pack.specs.Packs.{found}
 
 module _ (p : ℕ → Bool) where

@@ -11,11 +11,11 @@ use Rattle.program.specs.Table.{Definition, noDefinition}
 use Rattle.program.specs.Tree.{Expr, treeOf, isField, sortBroken}
 use Rattle.words.specs.Trees.{at, made}
 use Rattle.nodes.specs.declared.Node.{Node}
-use Rattle.nodes.specs.Body.{leadOf, kidsOf}
+use Rattle.shapes.specs.Shapes.{leadOf, kidsOf}
 use Rattle.nodes.specs.Values.{nodeOf}
-use Rattle.pack.specs.declared.Flags.{Flags}
-use Rattle.pack.specs.Parts.{differs, formBy, IsWord}
-use Rattle.pack.specs.Sorts.{brokenBy}
+use Rattle.encode.specs.Parts.{formBy, IsWord}
+use Rattle.sorts.specs.declared.Flags.{Flags}
+use Rattle.sorts.specs.Sorts.{differs, brokenBy}
 
 -- child j, of so many, is a field
 abbrev pub flagIn : List Expr → ℕ → ℕ → ℕ → Bool

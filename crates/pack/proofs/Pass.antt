@@ -15,19 +15,20 @@ use Rattle.program.specs.Check.{sortOffends}
 use Rattle.program.proofs.Tests.{either, second}
 use Rattle.words.specs.Word.{form, item, p1, p2, p3, p4, body, count, word}
 use Rattle.words.specs.Trees.{at, made, treeAt}
-use Rattle.masks.specs.Formed.{nodes, widths, width, Formed, AllFormed}
-use Rattle.masks.proofs.Trees.{tree-0, formed}
-use Rattle.nodes.specs.Agrees.{Agree}
-use Rattle.nodes.specs.Body.{noNode, leadOf, kidsOf}
+use Rattle.operands.specs.Formed.{nodes, widths, width, Formed, AllFormed}
+use Rattle.operands.proofs.Trees.{tree-0, formed}
+use Rattle.marks.specs.Agrees.{Agree}
+use Rattle.shapes.specs.Shapes.{leadOf, kidsOf}
+use Rattle.nodes.specs.Body.{noNode}
 use Rattle.nodes.specs.Values.{nodeOf}
 use Rattle.load.specs.declared.Table.{Table}
 use Rattle.load.specs.Loads.{tableOf, nodeAt, GoodNode, Good}
-use Rattle.pack.specs.declared.Flags.{Flags}
-use Rattle.pack.specs.Parts.{formBy, itemBy, firstBad, kid, IsParts, Fits, IsWord}
-use Rattle.pack.specs.Sorts.{partField, flagsIn, brokenBy}
+use Rattle.encode.specs.Parts.{formBy, itemBy, kid, IsParts, Fits, IsWord}
+use Rattle.encode.proofs.Words.{Shape, shape, item-fits, form-is}
+use Rattle.sorts.specs.declared.Flags.{Flags}
+use Rattle.sorts.specs.Sorts.{partField, flagsIn, brokenBy, firstBad}
 use Rattle.pack.specs.Sorted.{Sorted}
 use Rattle.pack.specs.Packs.{Packs}
-use Rattle.pack.proofs.Words.{Shape, shape, item-fits, form-is}
 use Rattle.pack.proofs.Made.{flagIn, flagsOf, made-is, field-is, broken-is}
 use Rattle.pack.proofs.Grown.{firsts, first-tree, tree-is, tree-at}
 use Rattle.pack.proofs.Tables.{nodes-long, node-at, body-at, bodies-are}

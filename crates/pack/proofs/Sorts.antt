@@ -14,8 +14,8 @@ use Rattle.round.specs.Round.{reps}
 use Rattle.words.specs.Word.{form, item, p1, p2, p3, p4, body, word}
 use Rattle.words.specs.Trees.{treeAt}
 use Rattle.words.specs.Sound.{Num, Fld, Arg, Right}
-use Rattle.masks.specs.Formed.{nodes, widths, operand, AllFormed}
-use Rattle.masks.proofs.Trees.{argOf, tree-3, tree-4, tree-5, tree-6, tree-7, tree-8, tree-9, tree-10, tree-16, tree-18, tree-19, width-of}
+use Rattle.operands.specs.Formed.{nodes, widths, operand, AllFormed}
+use Rattle.operands.proofs.Trees.{argOf, tree-3, tree-4, tree-5, tree-6, tree-7, tree-8, tree-9, tree-10, tree-16, tree-18, tree-19, width-of}
 use Rattle.pack.specs.Sorted.{Sorted}
 
 pub right : {ws us : List ℕ} {n : ℕ} → Sorted ws n → ((v : ℕ) → v < 16 → eqb (getD us n 0 / 2 ^ v % 2) 1 ≡ among v (reps (treeAt ws n))) → Right ws us n

@@ -1,4 +1,2 @@
-pub mod Parts
-pub mod Sorts
 pub mod Sorted
 pub mod Packs

@@ -10,7 +10,7 @@ use Rattle.program.specs.Tree.{tree, isField}
 use Rattle.program.specs.Check.{lowest, offending, sortOffends}
 use Rattle.words.specs.Word.{form, item, word}
 use Rattle.words.specs.Trees.{treeAt}
-use Rattle.masks.specs.Formed.{nodes, AllFormed}
+use Rattle.operands.specs.Formed.{nodes, AllFormed}
 use Rattle.load.specs.declared.Table.{Table}
 use Rattle.nodes.specs.declared.Node.{Node}
 use Rattle.load.specs.Loads.{tableOf, nodeAt}

@@ -8,8 +8,9 @@ use lib.ListN.{length, getD, drop}
 use lib.Dec.{eqb, leb, ltb}
 use borrow.Author.Tests.{leb-false, ltb-false, eqb-true}
 use Rattle.program.specs.Table.{beyond}
-use Rattle.nodes.specs.Body.{leadOf, widthOf, kidsOf, itemOf, constantOf, inside}
-use Rattle.nodes.specs.Marked.{takenIn}
+use Rattle.shapes.specs.Shapes.{leadOf, widthOf, kidsOf, inside}
+use Rattle.nodes.specs.Body.{itemOf, constantOf}
+use Rattle.marks.specs.Marked.{takenIn}
 use Rattle.rows.specs.Marks.{Marks}
 use Rattle.rows.specs.Numbers.{orElse, callNumber, shapeNumber, bodyNumber, nodeNumber, definitionNumber, mainNumber}
 

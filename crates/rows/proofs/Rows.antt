@@ -10,11 +10,12 @@ use borrow.Author.Tests.{leb-false, eqb-true, eq-eqb, ne-eqb}
 use Rattle.program.specs.Table as program
 use Rattle.program.specs.Table.{child, slot, keeps, definition, itemsOf, size, outside, numbers, Table, firstOf, among, beyond, takenBy, allNumbers, definitionAt, nodeRows, definitionRows, mainRows, Entry, aNode, aDefinition, aMain, unknown, entryOf}
 use Rattle.program.proofs.Tests.{either}
-use Rattle.nodes.specs.Body.{leadOf, widthOf, kidsOf, itemOf, constantOf, inside}
-use Rattle.nodes.specs.Marked.{takenIn}
+use Rattle.shapes.specs.Shapes.{leadOf, widthOf, kidsOf, inside}
+use Rattle.nodes.specs.Body.{itemOf, constantOf}
+use Rattle.marks.specs.Marked.{takenIn}
 use Rattle.nodes.proofs.Items.{size-is, same-kids, in-ranges}
 use Rattle.nodes.proofs.Body.{node-outside, node-children, node-slots, node-keeps, node-definitions}
-use Rattle.nodes.proofs.Marks.{taken-is}
+use Rattle.marks.proofs.Marks.{taken-is}
 use Rattle.rows.specs.Marks.{Marks}
 use Rattle.rows.specs.Numbers.{orElse, callNumber, itemTaken, shapeNumber, bodyNumber, nodeNumber, definitionNumber, mainNumber, fieldNumber}
 use Rattle.rows.specs.Shows.{Shows}

@@ -9,12 +9,13 @@ use lib.Dec.{eqb, leb}
 use borrow.Author.Tests.{not-true, not-false, eq-eqb, ne-eqb}
 use Rattle.program.specs.Table.{beyond}
 use Rattle.nodes.specs.declared.Node.{Node}
-use Rattle.nodes.specs.Body.{leadOf, widthOf, inside, made, nodeIn}
+use Rattle.shapes.specs.Shapes.{leadOf, widthOf, inside}
+use Rattle.nodes.specs.Body.{made, nodeIn}
 use Rattle.nodes.specs.Values.{childrenOf}
-use Rattle.nodes.specs.Marked.{Takes, TakesAll}
+use Rattle.marks.specs.Marked.{Takes, TakesAll}
 use Rattle.nodes.proofs.Items.{few-kids}
 use Rattle.nodes.proofs.Body.{children-made}
-use Rattle.nodes.proofs.Pick.{onTrue, onFalse}
+use Rattle.shapes.proofs.Pick.{onTrue, onFalse}
 use Rattle.rows.specs.declared.Read.{Read}
 use Rattle.rows.specs.Marks.{Marks, marksOf}
 use Rattle.rows.specs.Numbers.{itemTaken, shapeNumber, bodyNumber, nodeNumber, fieldNumber}

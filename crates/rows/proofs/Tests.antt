@@ -6,9 +6,9 @@ use Prim.Native.Nat.{ℕ, _+_, _≤_, _<_}
 use lib.ListN.{getD, set}
 use lib.Dec.{eqb, leb, ltb}
 use borrow.Author.Tests.{le-leb, lt-leb, lt-ltb, le-ltb, eq-eqb, ne-eqb}
-use Rattle.nodes.specs.declared.Shape.{Shape}
-use Rattle.nodes.specs.Body.{widthOf, kidsOf, shapeOf}
-use Rattle.nodes.proofs.Pick.{onTrue, onFalse}
+use Rattle.shapes.specs.declared.Shape.{Shape}
+use Rattle.shapes.specs.Shapes.{widthOf, kidsOf, shapeOf}
+use Rattle.shapes.proofs.Pick.{onTrue, onFalse}
 use Rattle.rows.specs.Numbers.{orElse}
 
 pub told : {b d : Bool} {t : Bool} → b ≡ d → b ≡ t → d ≡ t

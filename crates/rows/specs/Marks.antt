@@ -5,9 +5,9 @@ use Prim.Native.Nat.{ℕ}
 use lib.ListN.{set}
 use lib.Dec.{eqb}
 use Rattle.nodes.specs.declared.Node.{Node}
-use Rattle.nodes.specs.Body.{leadOf}
+use Rattle.shapes.specs.Shapes.{leadOf}
 use Rattle.nodes.specs.Values.{childrenOf}
-use Rattle.nodes.specs.Marked.{marked, markIf}
+use Rattle.marks.specs.Marked.{marked, markIf}
 
 pub record Marks : Type 0 where
   pub named : List Bool

@@ -5,8 +5,9 @@ use Prim.Native.Nat.{ℕ, _+_}
 use lib.ListN.{length, getD, drop}
 use lib.Dec.{eqb, leb, ltb}
 use Rattle.program.specs.Table.{beyond}
-use Rattle.nodes.specs.Body.{leadOf, widthOf, kidsOf, itemOf, constantOf, inside}
-use Rattle.nodes.specs.Marked.{takenIn}
+use Rattle.shapes.specs.Shapes.{leadOf, widthOf, kidsOf, inside}
+use Rattle.nodes.specs.Body.{itemOf, constantOf}
+use Rattle.marks.specs.Marked.{takenIn}
 use Rattle.rows.specs.Marks.{Marks}
 
 unfoldable pub callNumber : ℕ → List ℕ → ℕ → ℕ

@@ -6,9 +6,10 @@ use Prim.Native.Nat.{ℕ}
 use lib.ListN.{getD, drop, set}
 use lib.Dec.{eqb}
 use Rattle.nodes.specs.declared.Node.{Node}
-use Rattle.nodes.specs.Body.{leadOf, nodeIn}
+use Rattle.shapes.specs.Shapes.{leadOf}
+use Rattle.nodes.specs.Body.{nodeIn}
 use Rattle.nodes.specs.Values.{childrenOf}
-use Rattle.nodes.specs.Marked.{markIf}
+use Rattle.marks.specs.Marked.{markIf}
 use Rattle.rows.specs.declared.Read.{Read}
 use Rattle.rows.specs.Marks.{Marks, withNode, marksOf}
 use Rattle.rows.specs.Numbers.{itemTaken, bodyNumber, definitionNumber, mainNumber, fieldNumber}

@@ -5,7 +5,7 @@ use Prim.Native.Nat.{ℕ, _≤_, _<_}
 use lib.ListN.{length, getD}
 use Rattle.program.specs.Table as program
 use Rattle.program.specs.Table.{Table, slot, keeps, allNumbers, definitionAt}
-use Rattle.nodes.specs.Agrees.{Agree}
+use Rattle.marks.specs.Agrees.{Agree}
 use Rattle.rows.specs.Marks.{Marks}
 
 pub record Shows (n defs : ℕ) (counts : List ℕ) (m : Marks) (t : Table) : Type 0 where

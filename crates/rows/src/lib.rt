@@ -46,10 +46,10 @@ fn take_item(lead: u8, item: u8, slots: &mut [bool; 256], kept: &mut [bool; 256]
     requires { ⌜ (length (now slots) ≡ 256) × (length (now kept) ≡ 256) ⌝ }
     ensures { λ r. ⌜ TakesItem lead item (now (slots .entry)) (now (kept .entry)) r (now (slots .exit)) (now (kept .exit)) ⌝ }
 {
-    if nodes::take(lead == 5, item, slots) {
+    if marks::take(lead == 5, item, slots) {
         return true;
     }
-    nodes::take(lead == 4, item, kept)
+    marks::take(lead == 4, item, kept)
 }
 
 // The rows of a node whose body has the right length. What it names is marked.
@@ -64,17 +64,17 @@ fn body_number(
     requires { ⌜ (length (now named) ≡ 256) × (length (now slots) ≡ 256) × (length (now kept) ≡ 256) ⌝ }
     ensures { λ r. ⌜ TakesBody x n defs (marksOf (now (named .entry)) (now (slots .entry)) (now (kept .entry))) r (marksOf (now (named .exit)) (now (slots .exit)) (now (kept .exit))) ⌝ }
 {
-    let lead = nodes::lead_of(x.kind);
-    if !nodes::in_range(lead, x.item, x.constant) {
+    let lead = shapes::lead_of(x.kind);
+    if !shapes::in_range(lead, x.item, x.constant) {
         return 3; // out of its range
     }
-    if nodes::any_beyond(x, n) {
+    if marks::any_beyond(x, n) {
         return 4; // a node not yet given
     }
     if not_defined(lead, x.item, defs) {
         return 4; // a definition not yet given
     }
-    if nodes::take_children(x, named) {
+    if marks::take_children(x, named) {
         return 5; // a node taken already
     }
     if take_item(lead, x.item, slots, kept) {
@@ -98,7 +98,7 @@ fn shape_number(kind: u8, s: &[u8], n: usize, defs: usize, count: u8) -> u32
     if c != 0 {
         return c;
     }
-    let shape = nodes::shape_of(kind, count);
+    let shape = shapes::shape_of(kind, count);
     let w = shape.width as usize;
     let k = shape.kids as usize;
     if s.len() != w + k {
@@ -165,7 +165,7 @@ fn definition_number(b: &[u8], n: usize, defs: usize, named: &mut [bool; 256]) -
     if n <= body as usize {
         return 4;
     }
-    if nodes::take(true, body, named) {
+    if marks::take(true, body, named) {
         return 5;
     }
     0
@@ -183,7 +183,7 @@ fn main_number(b: &[u8], n: usize, named: &mut [bool; 256]) -> u32
     if n <= main as usize {
         return 4;
     }
-    if nodes::take(true, main, named) {
+    if marks::take(true, main, named) {
         return 5;
     }
     0

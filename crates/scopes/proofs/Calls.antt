@@ -14,7 +14,7 @@ use borrow.Author.Tests.{eqb-true, eqb-false, eq-eqb, ne-eqb, lt-ltb}
 use Rattle.program.specs.Table.{Node, Table, definitionAt, isCall}
 use Rattle.program.specs.Tree.{tree, spatial}
 use Rattle.program.specs.Check.{lowest, offending, noNode, nodeAt, called, useOffends}
-use Rattle.masks.specs.Formed.{nodes}
+use Rattle.operands.specs.Formed.{nodes}
 use Rattle.scopes.specs.Places.{found}
 use Rattle.scopes.specs.Uses.{Columns, calledBelow, Marks, offends, Passed}
 use Rattle.scopes.proofs.Places.{none-offends, one-offends}

@@ -9,7 +9,7 @@ use native.Mathlib.Omega.{arith}
 use lib.Dec.{eqb, ltb}
 use borrow.Author.Tests.{eqb-true, eqb-false, ltb-true, ltb-false, lt-ltb, le-ltb}
 use Rattle.program.specs.Check.{lowest, offending}
-use Rattle.masks.specs.Formed.{nodes}
+use Rattle.operands.specs.Formed.{nodes}
 use Rattle.scopes.specs.Places.{found, At}
 
 -- ---- for the caller: what an answer says

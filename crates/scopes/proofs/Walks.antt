@@ -15,11 +15,11 @@ use Rattle.program.specs.Tree.{tree, misread}
 use Rattle.program.specs.Check.{lowest, misreadIn}
 use Rattle.words.specs.Word.{form, item, word}
 use Rattle.words.specs.Trees.{treeAt}
-use Rattle.masks.specs.Formed.{nodes, width, operand, part, Formed, AllFormed}
+use Rattle.operands.specs.Formed.{nodes, width, operand, part, Formed, AllFormed}
 use Rattle.masks.specs.Masks.{hasBit}
 use Rattle.masks.proofs.Bits.{no-bit, power-bit, or-bit}
-use Rattle.masks.proofs.Trees.{View, is-0, is-1, is-2, is-3, is-4, is-5, is-6, is-7, is-8, is-9, is-10, is-16, is-17, is-18, is-19, view}
-use Rattle.masks.proofs.Leaves.{Leaf, leaf-width}
+use Rattle.operands.proofs.Trees.{View, is-0, is-1, is-2, is-3, is-4, is-5, is-6, is-7, is-8, is-9, is-10, is-16, is-17, is-18, is-19, view}
+use Rattle.operands.proofs.Leaves.{Leaf, leaf-width}
 use Rattle.scopes.specs.Places.{found, At}
 use Rattle.scopes.specs.Scope.{InScope, Lowest, ownPlace, inner, Told}
 use Rattle.scopes.proofs.Places.{join}

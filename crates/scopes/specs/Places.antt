@@ -9,7 +9,7 @@ use lib.ListN.{length, getD}
 use lib.Dec.{ltb}
 use Rattle.program.specs.Table.{Table, definitionAt}
 use Rattle.program.specs.Check.{lowest}
-use Rattle.masks.specs.Formed.{nodes}
+use Rattle.operands.specs.Formed.{nodes}
 
 abbrev pub found : ℕ → Option ℕ
 found r = cond (ltb r nodes) (some r) none

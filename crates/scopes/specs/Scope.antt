@@ -10,7 +10,7 @@ use Rattle.program.specs.Table.{Table, among}
 use Rattle.program.specs.Tree.{Expr, tree, misread}
 use Rattle.words.specs.Word.{form, item}
 use Rattle.words.specs.Trees.{treeAt}
-use Rattle.masks.specs.Formed.{nodes}
+use Rattle.operands.specs.Formed.{nodes}
 use Rattle.masks.specs.Masks.{hasBit}
 use Rattle.scopes.specs.Places.{At, Defined}
 

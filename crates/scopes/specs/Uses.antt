@@ -8,7 +8,7 @@ use lib.Dec.{eqb}
 use Rattle.program.specs.Table.{Table, isCall}
 use Rattle.program.specs.Tree.{tree, spatial}
 use Rattle.program.specs.Check.{nodeAt, useOffends}
-use Rattle.masks.specs.Formed.{nodes}
+use Rattle.operands.specs.Formed.{nodes}
 use Rattle.scopes.specs.Places.{Defined}
 
 -- the table that the columns tell: kinds of nodes, the definitions that calls and folds name, parameter counts and bodies of definitions, and which

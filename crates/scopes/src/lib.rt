@@ -1,9 +1,9 @@
 // The lowest node that offends: by a parameter or variable that it may not read, by its use of a definition.
-use masks::form_of;
-use masks::item_of;
-use masks::leaf;
-use masks::operand;
-use masks::width_of;
+use operands::leaf;
+use operands::operand;
+use operands::width_of;
+use unpack::form_of;
+use unpack::item_of;
 ghost use mathlib.Core.Path.{_≡_};
 ghost use mathlib.Core.Bool.{false, _||_};
 ghost use mathlib.Core.List.{[], _++_};
@@ -14,7 +14,7 @@ ghost use Rattle.program.specs.Tree.{tree, misread};
 ghost use Rattle.program.specs.Check.{lowest, offending, misreadIn, useOffends};
 ghost use Rattle.words.specs.Word.{word};
 ghost use Rattle.words.specs.Trees.{treeAt};
-ghost use Rattle.masks.specs.Formed.{nodes, part as partOf, AllFormed};
+ghost use Rattle.operands.specs.Formed.{nodes, part as partOf, AllFormed};
 ghost use Rattle.masks.specs.Masks.{hasBit};
 ghost use Rattle.scopes.specs.Places.{found};
 ghost use Rattle.scopes.specs.Scope.{Lowest, ownPlace, inner, Told};

@@ -10,13 +10,13 @@ use borrow.Author.Count.{below-more}
 use Rattle.program.specs.Table as program
 use Rattle.program.specs.Tree.{spatial}
 use Rattle.program.specs.Check as checked
-use Rattle.masks.specs.Formed.{nodes}
-use Rattle.masks.specs.Masks.{Spatials}
+use Rattle.operands.specs.Formed.{nodes}
+use Rattle.spread.specs.Spread.{Spatials}
 use Rattle.scopes.specs.Places.{Defined}
 use Rattle.scopes.specs.Scope.{Told}
 use Rattle.scopes.specs.Uses.{Columns}
 use Rattle.nodes.specs.declared.Node.{Node}
-use Rattle.nodes.specs.Body.{leadOf}
+use Rattle.shapes.specs.Shapes.{leadOf}
 use Rattle.nodes.specs.Values.{headOf, childrenOf, nodeOf}
 use Rattle.load.specs.declared.Table.{Table}
 use Rattle.load.specs.Loads.{tableOf, nodeAt}

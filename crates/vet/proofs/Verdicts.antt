@@ -21,7 +21,7 @@ use Rattle.words.specs.Trees.{treeAt}
 use Rattle.words.specs.Sound.{Sound}
 use Rattle.verdict.specs.declared.Verdict.{Verdict}
 use Rattle.verdict.specs.Pair.{pair}
-use Rattle.masks.specs.Formed.{nodes}
+use Rattle.operands.specs.Formed.{nodes}
 use Rattle.masks.specs.Masks.{Masks}
 use Rattle.costs.specs.Costs.{capped}
 use Rattle.load.specs.declared.Table.{Table}

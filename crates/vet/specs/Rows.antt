@@ -10,7 +10,7 @@ use Rattle.words.specs.Word.{form, word}
 use Rattle.words.specs.Trees.{treeAt}
 use Rattle.verdict.specs.declared.Verdict.{Verdict}
 use Rattle.verdict.specs.Pair.{pair}
-use Rattle.masks.specs.Formed.{nodes, AllFormed, Empty}
+use Rattle.operands.specs.Formed.{nodes, AllFormed, Empty}
 use Rattle.load.specs.declared.Table.{Table}
 use Rattle.load.specs.Loads.{tableOf, Good}
 use Rattle.pack.specs.Packs.{kindOf, itemOf, Column}

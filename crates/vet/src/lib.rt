@@ -4,7 +4,7 @@ ghost use Prim.Native.Nat.{max, _+_, _<_, _≤_};
 ghost use lib.ListN.{length};
 ghost use Rattle.program.specs.Check.{check as checkOf, lowest, offending, useOffends};
 ghost use Rattle.verdict.specs.Pair.{pair};
-ghost use Rattle.masks.specs.Formed.{nodes, AllFormed};
+ghost use Rattle.operands.specs.Formed.{nodes, AllFormed};
 ghost use Rattle.load.specs.declared.Table as load;
 ghost use Rattle.load.specs.Loads.{tableOf, Good};
 ghost use Rattle.pack.specs.Packs.{found};
@@ -62,7 +62,7 @@ fn uses(
 {
     let no = false;
     let mut sp = [no; NODES];
-    masks::make_spatial(ws, &mut sp, top_of(bodies, defs));
+    spread::make_spatial(ws, &mut sp, top_of(bodies, defs));
     scopes::use_offends(kinds, items, counts, bodies, &sp, n as u16)
 }
 

@@ -6,11 +6,11 @@ use lib.ListN.{getD}
 use borrow.Author.Needs.{needs}
 use borrow.Fn.Kinds.{In}
 use borrow.Fn.PlainCycle.{Measures, is, falls, and}
-use Rattle.masks.proofs.form_of.Reads as form-of-reads
-use Rattle.masks.proofs.leaf.Reads as leaf-reads
-use Rattle.masks.proofs.Leaves.{leaf-of}
-use Rattle.masks.proofs.operand.Reads as operand-reads
-use Rattle.masks.proofs.width_of.Reads as width-of-reads
+use Rattle.unpack.proofs.form_of.Reads as form-of-reads
+use Rattle.operands.proofs.leaf.Reads as leaf-reads
+use Rattle.operands.proofs.Leaves.{leaf-of}
+use Rattle.operands.proofs.operand.Reads as operand-reads
+use Rattle.operands.proofs.width_of.Reads as width-of-reads
 use Rattle.costs.proofs.Laws.{at-most, within, joined, body-fold, body-call, body-none, part-some, part-none, part-leaf, is-noted, now-noted, asks-cost, asks-noted, goes-on}
 use Rattle.costs.proofs.add.Reads as add-reads
 use Rattle.costs.proofs.fifteen.Reads as fifteen-reads

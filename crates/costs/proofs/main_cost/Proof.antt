@@ -1,6 +1,6 @@
 -- `costs::main_cost` meets its contract. Assumes nothing.
 use Rattle.costs.proofs.Laws.{none-noted}
-use Rattle.masks.specs.Formed.{nodes}
+use Rattle.operands.specs.Formed.{nodes}
 use native.Mathlib.Omega.{arith}
 use Rattle.costs.proofs.main_cost.Statement.{statement}
 use Rattle.costs.proofs.main_cost.Tie as tie

@@ -1,6 +1,7 @@
 -- `masks::mask_of` meets its contract. Assumes nothing.
-use Rattle.masks.proofs.Leaves.{leaf-of, leaf-mask}
-use Rattle.masks.proofs.Notes.{asks-part, asks-body}
+use Rattle.operands.proofs.Leaves.{leaf-of}
+use Rattle.operands.proofs.Below.{asks-part, asks-body}
+use Rattle.masks.proofs.Notes.{leaf-mask}
 use Rattle.masks.specs.Masks.{maskOf}
 use native.Mathlib.Omega.{arith}
 use mathlib.Core.Path.{sym, _∙_}

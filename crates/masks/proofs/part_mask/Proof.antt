@@ -2,7 +2,7 @@
 use native.Mathlib.Omega.{arith}
 use borrow.Author.Tests.{lt-ltb, le-ltb}
 use borrow.Author.Needs.{needs}
-use Rattle.masks.specs.Formed.{width}
+use Rattle.operands.specs.Formed.{width}
 use Rattle.masks.proofs.part_mask.Statement.{statement}
 use Rattle.masks.proofs.part_mask.Tie as tie
 

@@ -1,7 +1,7 @@
 -- `nodes::after` meets its contract. Assumes nothing.
 use denote.Ref.{now}
 use borrow.Author.Needs.{needs}
-use Rattle.nodes.proofs.Walk.{rest-all, rest-none}
+use Rattle.nodes.proofs.Parts.{rest-all, rest-none}
 use Rattle.nodes.proofs.after.Statement.{statement}
 use Rattle.nodes.proofs.after.Tie as tie
 

@@ -1,5 +1,5 @@
 -- `nodes::constant` meets its contract. Assumes nothing.
-use Rattle.nodes.proofs.Pick.{onTrue, onFalse}
+use Rattle.shapes.proofs.Pick.{onTrue, onFalse}
 use Rattle.nodes.specs.Body.{constantOf}
 use borrow.Author.Tests.{eq-eqb, ne-eqb}
 use mathlib.Core.Path.{refl}

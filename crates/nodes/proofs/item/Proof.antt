@@ -3,7 +3,7 @@ use mathlib.Core.Path.{refl}
 use borrow.Author.Tests.{eq-eqb, ne-eqb}
 use borrow.Author.Needs.{needs}
 use Rattle.nodes.specs.Body.{itemOf}
-use Rattle.nodes.proofs.Pick.{onTrue, onFalse}
+use Rattle.shapes.proofs.Pick.{onTrue, onFalse}
 use Rattle.nodes.proofs.item.Statement.{statement}
 use Rattle.nodes.proofs.item.Tie as tie
 

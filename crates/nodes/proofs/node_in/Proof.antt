@@ -1,5 +1,5 @@
 -- `nodes::node_in` meets its contract. Assumes nothing.
-use Rattle.nodes.proofs.Kids.{node-as}
+use Rattle.nodes.proofs.Parts.{node-as}
 use borrow.Author.Needs.{needs}
 use Rattle.nodes.proofs.node_in.Statement.{statement}
 use Rattle.nodes.proofs.node_in.Tie as tie

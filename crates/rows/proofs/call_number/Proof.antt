@@ -4,7 +4,7 @@ use borrow.Author.Tests.{eq-eqb, ne-eqb}
 use borrow.Author.Needs.{needs}
 use Rattle.rows.specs.Numbers.{callNumber}
 use Rattle.rows.proofs.Tests.{le-as, lt-as}
-use Rattle.nodes.proofs.Pick.{onTrue, onFalse}
+use Rattle.shapes.proofs.Pick.{onTrue, onFalse}
 use Rattle.rows.proofs.call_number.Statement.{statement}
 use Rattle.rows.proofs.call_number.Tie as tie
 

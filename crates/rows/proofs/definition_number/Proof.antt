@@ -1,6 +1,6 @@
 -- `rows::definition_number` meets its contract. Assumes nothing.
 use denote.Ref.{now}
-use Rattle.nodes.proofs.Pick.{onTrue, onFalse}
+use Rattle.shapes.proofs.Pick.{onTrue, onFalse}
 use Rattle.rows.proofs.Tests.{told, le-as, lt-as, above-as, within-as, mark-as, set-as}
 use Rattle.rows.specs.Numbers.{definitionNumber}
 use borrow.Author.Tests.{le-leb, lt-leb, eq-eqb, ne-eqb}

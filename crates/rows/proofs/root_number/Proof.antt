@@ -1,5 +1,5 @@
 -- `rows::root_number` meets its contract. Assumes nothing.
-use Rattle.nodes.proofs.Pick.{onTrue, onFalse}
+use Rattle.shapes.proofs.Pick.{onTrue, onFalse}
 use Rattle.rows.specs.Numbers.{fieldNumber}
 use borrow.Author.Tests.{eq-eqb, ne-eqb}
 use native.Mathlib.Omega.{arith}

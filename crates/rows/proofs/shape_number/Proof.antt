@@ -1,5 +1,5 @@
 -- `rows::shape_number` meets its contract. Assumes nothing.
-use Rattle.nodes.proofs.Pick.{onTrue, onFalse}
+use Rattle.shapes.proofs.Pick.{onTrue, onFalse}
 use Rattle.rows.specs.Numbers.{shapeNumber}
 use Rattle.rows.proofs.Tests.{else-stop, else-go, wrong-size, right-size}
 use borrow.Author.Tests.{le-leb, lt-leb}

@@ -6,10 +6,10 @@ use borrow.Author.Needs.{needs}
 use borrow.Fn.Kinds.{In}
 use borrow.Fn.PlainCycle.{Measures, is, falls, and}
 use mathlib.Core.Path.{sym, _∙_}
-use Rattle.masks.proofs.leaf.Reads as leaf-reads
-use Rattle.masks.proofs.operand.Reads as operand-reads
-use Rattle.masks.proofs.width_of.Reads as width-of-reads
-use Rattle.masks.proofs.Leaves.{leaf-of}
+use Rattle.operands.proofs.leaf.Reads as leaf-reads
+use Rattle.operands.proofs.operand.Reads as operand-reads
+use Rattle.operands.proofs.width_of.Reads as width-of-reads
+use Rattle.operands.proofs.Leaves.{leaf-of}
 use Rattle.scopes.proofs.Walks.{joined, part-some, part-none, walk-leaf, asks}
 use Rattle.scopes.proofs.lower.Reads as lower-reads
 use Rattle.scopes.proofs.own.Reads as own-reads

@@ -1,0 +1,48 @@
+-- The word of one node, part by part. Internal: no public contract cites it. Definitions only: nothing is assumed.
+use mathlib.Core.Path.{_≡_}
+use mathlib.Core.Bool.{Bool, cond}
+use mathlib.Core.List.{[], _∷_}
+use Prim.Native.Nat.{ℕ, _<_, _≤_}
+use lib.ListN.{getD}
+use lib.Dec.{ltb}
+use Rattle.program.specs.Tree.{signed}
+use Rattle.words.specs.Word.{form, item, p1, p2, p3, p4, body, count, constantOf}
+use Rattle.nodes.specs.declared.Node.{Node}
+
+-- the form of a kind: side, where an operator has a field for a side; branch, where the second child is a field
+abbrev pub formBy : ℕ → Bool → Bool → ℕ
+formBy kind side branch =
+    getD (0 ∷ 1 ∷ 2 ∷ cond side 19 3 ∷ 4 ∷ 5 ∷ cond branch 18 6 ∷ 7 ∷ 16 ∷ 17 ∷ 10 ∷ 8 ∷ 9 ∷ []) kind 0
+
+-- the item of a word: none of a definition
+abbrev pub itemBy : ℕ → ℕ → ℕ
+itemBy kind i = getD (0 ∷ i ∷ i ∷ i ∷ 0 ∷ i ∷ 0 ∷ 0 ∷ i ∷ i ∷ i ∷ 0 ∷ 0 ∷ []) kind 0
+
+-- child j, of so many
+abbrev pub kid : ℕ → ℕ → ℕ → ℕ
+kid kids j k = cond (ltb j kids) k 0
+
+pub record IsConstant (c w : ℕ) : Type 0 where
+  pub isForm : form w ≡ 0
+  pub isNumber : constantOf w ≡ signed c
+
+-- the word of a form and an item, of x's children and their count, and of a body
+pub record IsParts (f i : ℕ) (x : Node) (b w : ℕ) : Type 0 where
+  pub isForm : form w ≡ f
+  pub isItem : item w ≡ i
+  pub isP1 : p1 w ≡ kid (x .kids) 0 (x .a)
+  pub isP2 : p2 w ≡ kid (x .kids) 1 (x .b)
+  pub isP3 : p3 w ≡ kid (x .kids) 2 (x .c)
+  pub isP4 : p4 w ≡ kid (x .kids) 3 (x .d)
+  pub isBody : body w ≡ b
+  pub isCount : count w ≡ x .kids
+
+-- what has a word
+pub record Fits (x : Node) : Type 0 where
+  pub kind : x .kind < 13
+  pub kids : x .kids ≤ 4
+  pub item : itemBy (x .kind) (x .item) < 16
+
+pub record IsWord (x : Node) (b : ℕ) (side branch : Bool) (w : ℕ) : Type 0 where
+  pub isConstant : x .kind ≡ 0 → IsConstant (x .constant) w
+  pub isParts : (x .kind ≡ 0 → ⊥) → IsParts (formBy (x .kind) side branch) (itemBy (x .kind) (x .item)) x b w

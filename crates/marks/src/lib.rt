@@ -1,0 +1,111 @@
+// The marks of what is given and named already.
+ghost use mathlib.Core.Path.{_≡_};
+ghost use mathlib.Core.Bool.{_&&_};
+ghost use Prim.Native.Nat.{_≤_};
+ghost use lib.ListN.{length};
+ghost use lib.Dec.{leb};
+ghost use Rattle.program.specs.Table.{beyond};
+ghost use Rattle.nodes.specs.Values.{childrenOf};
+ghost use Rattle.marks.specs.Marked.{marked, markIf, unmarked, Takes, TakesAll};
+
+// Whether a child that is there is not below n.
+fn beyond_at(there: bool, k: u8, n: usize) -> bool
+    ensures { λ r. ⌜ r ≡ (there && leb n k) ⌝ }
+{
+    if there {
+        return n <= k as usize;
+    }
+    false
+}
+
+// Whether some child is not below n.
+pub fn any_beyond(x: nodes::Node, n: usize) -> bool
+    ensures { λ r. ⌜ r ≡ beyond n (childrenOf x) ⌝ }
+{
+    if x.kids == 0 {
+        return false;
+    }
+    if beyond_at(0 < x.kids, x.a, n) {
+        return true;
+    }
+    if beyond_at(1 < x.kids, x.b, n) {
+        return true;
+    }
+    if beyond_at(2 < x.kids, x.c, n) {
+        return true;
+    }
+    beyond_at(3 < x.kids, x.d, n)
+}
+
+// Marks a number that is there, and says whether it was marked already.
+pub fn take(there: bool, k: u8, m: &mut [bool; 256]) -> bool
+    requires { ⌜ length (now m) ≡ 256 ⌝ }
+    ensures { λ r. ⌜ Takes there k (now (m .entry)) r (now (m .exit)) ⌝ }
+{
+    if !there {
+        return false;
+    }
+    let i = k as usize;
+    if m[i] {
+        return true;
+    }
+    m[i] = true;
+    false
+}
+
+// Marks the children, and says whether one was marked already or stands twice.
+pub fn take_children(x: nodes::Node, m: &mut [bool; 256]) -> bool
+    requires { ⌜ length (now m) ≡ 256 ⌝ }
+    ensures { λ r. ⌜ TakesAll (childrenOf x) (now (m .entry)) r (now (m .exit)) ⌝ }
+{
+    if take(0 < x.kids, x.a, m) {
+        return true;
+    }
+    if take(1 < x.kids, x.b, m) {
+        return true;
+    }
+    if take(2 < x.kids, x.c, m) {
+        return true;
+    }
+    take(3 < x.kids, x.d, m)
+}
+
+// The marks with those of the numbers set.
+pub fn mark(ks: &[u8], marks: [bool; 256]) -> [bool; 256]
+    ensures { λ r. ⌜ r ≡ marked marks (now (ks .entry)) ⌝ }
+{
+    let mut all = marks;
+    let mut i: usize = 0;
+    while i < ks.len() {
+        let k = nodes::get(ks, i) as usize;
+        all[k] = true;
+        i += 1;
+    }
+    all
+}
+
+// The marks, with one set where `on` says so.
+pub fn mark_if(on: bool, k: u8, marks: [bool; 256]) -> [bool; 256]
+    ensures { λ r. ⌜ r ≡ markIf on k marks ⌝ }
+{
+    let mut m = marks;
+    if on {
+        m[k as usize] = true;
+    }
+    m
+}
+
+// Whether some mark below n is not set.
+pub fn any_unmarked(marks: &[bool; 256], n: usize) -> bool
+    requires { ⌜ n ≤ 256 ⌝ }
+    ensures { λ r. ⌜ r ≡ unmarked n (now (marks .entry)) ⌝ }
+{
+    let mut k = n;
+    while 0 < k {
+        k -= 1;
+        if !marks[k] {
+            return true;
+        }
+    }
+    false
+}

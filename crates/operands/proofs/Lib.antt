@@ -1,0 +1,4 @@
+pub mod Leaves
+pub mod Digits
+pub mod Trees
+pub mod Below

@@ -1,0 +1,42 @@
+-- The sorts of a node's children, by their words, and whether they are what the node's kind asks for. Internal: no public contract cites it.
+-- Definitions only: nothing is assumed.
+use mathlib.Core.Bool.{Bool, false, not, cond, _||_}
+use mathlib.Core.List.{List, [], _∷_}
+use Prim.Native.Nat.{ℕ}
+use lib.ListN.{getD}
+use lib.Dec.{leb, ltb}
+use Rattle.words.specs.Word.{form, word}
+use Rattle.operands.specs.Formed.{nodes}
+use Rattle.nodes.specs.declared.Node.{Node}
+use Rattle.sorts.specs.declared.Flags.{Flags}
+
+abbrev pub differs : Bool → Bool → Bool
+differs x y = cond x (not y) y
+
+-- child j, of so many, is a field
+abbrev pub partField : List ℕ → ℕ → ℕ → ℕ → Bool
+partField ws kids j k = cond (ltb j kids) (leb 16 (form (word ws k))) false
+
+abbrev pub flagsIn : List ℕ → Node → Flags
+flagsIn ws x =
+    record {
+      a = partField ws (x .kids) 0 (x .a);
+      b = partField ws (x .kids) 1 (x .b);
+      c = partField ws (x .kids) 2 (x .c);
+      d = partField ws (x .kids) 3 (x .d);
+    }
+
+-- by kind
+abbrev pub brokenBy : ℕ → Flags → Bool
+brokenBy kind s =
+    let two : Bool = s .a || s .b in
+    let fold : Bool = s .a || not (s .b) in
+    getD (
+    false ∷ false ∷ false ∷ false ∷ s .a ∷ two ∷ (s .a || differs (s .b) (s .c)) ∷ (two || s .c) ∷ s .a ∷ false ∷ fold ∷ fold
+    ∷ ((two || s .c) || s .d) ∷ [])
+    kind
+    false
+
+-- the lowest that offends, where r was that before node n
+abbrev pub firstBad : ℕ → ℕ → Bool → ℕ
+firstBad r n bad = cond (ltb r nodes) r (cond bad n nodes)
