@@ -102,7 +102,15 @@ fn arithmetic() -> Vec<u8> {
     table(&Draft { definitions: vec![], main, orphans: vec![] })
 }
 
-/// Nine in ten are refused: 14, 15 or 16.
+/// Operators with halves of equal size below them, `size` nodes in all (odd).
+fn balanced(size: usize) -> Tree {
+    if size < 3 {
+        return Tree::constant(size as i32);
+    }
+    let left = (size - 1) / 2 | 1;
+    Tree::new(3, &[(size % 3) as u8], vec![balanced(left), balanced(size - 1 - left)])
+}
+
 fn mostly_refused(count: usize) -> Vec<Vec<u8>> {
     let random = &mut Random::new(3, 3);
     let event = |at: usize| match at % 10 {
@@ -123,6 +131,8 @@ fn works() -> (Vec<Work>, Vec<Work>) {
     assert_eq!(full.size(), 256);
     let tower = Draft { definitions: grow::tower(32), main: Tree::new(12, &[31], vec![]), orphans: vec![] };
     let dear = Draft { definitions: grow::tower(19), main: grow::spend(19, 1_000_000), orphans: vec![] };
+    let level = Draft { definitions: vec![], main: balanced(199), orphans: vec![] };
+    assert_eq!(level.size(), 199);
     let run = |name: &str, program: &[u8], list: Vec<Vec<u8>>, times: usize| Work {
         name: name.into(),
         program: program.to_vec(),
@@ -152,7 +162,8 @@ fn works() -> (Vec<Work>, Vec<Work>) {
     };
     let mut all = vec![
         run("run of 20,000 events: distance-to, a grid of 16 devices", distance_to, grid(20_000), 1),
-        run("the same with 200 nodes of arithmetic", &arithmetic(), grid(20_000), 1),
+        run("the same with 199 nodes of arithmetic, halves below halves", &table(&level), grid(20_000), 1),
+        run("the same with 200 nodes of arithmetic in a chain, 100 deep", &arithmetic(), grid(20_000), 1),
         event("one fire of a program that costs 1,000,000", &table(&dear), vec![events::fire(1)], 1),
         event("one event, distance-to: fire", distance_to, vec![events::fire(1)], 200),
         event("one event: signal", distance_to, vec![events::signal(1, 1, 1)], 200),
