@@ -17,8 +17,8 @@ fn list_verdict(counted: lists::Counted) -> verdict::Verdict
     }
 }
 
-// How many events there are to be done.
-fn events_in(counted: lists::Counted) -> usize
+// How many events there are to be done, none where the list is refused.
+pub fn events_in(counted: lists::Counted) -> usize
     ensures { λ r. ⌜ r ≡ eventsIn counted ⌝ }
 {
     match counted {

@@ -4,28 +4,18 @@ ghost use Prim.Native.Nat.{_≤_};
 ghost use lib.ListN.{length};
 ghost use Rattle.event.specs.Event.{readList, entriesOf};
 ghost use Rattle.lines.specs.Text.{Begins};
-ghost use Rattle.calls.specs.Carried.{eventsIn};
 ghost use Rattle.shift.specs.Replayed.{replayed};
 
 const CELLS: usize = 8464;
 
 const ANSWERS: usize = 2048;
 
-fn events_in(counted: lists::Counted) -> usize
-    ensures { λ r. ⌜ r ≡ eventsIn counted ⌝ }
-{
-    match counted {
-        lists::Counted::Events(n) => n,
-        lists::Counted::Refused(_) => 0,
-    }
-}
-
 // How many events the list has, 0 where it is refused.
 fn count(list: &[u8]) -> usize
     ensures { λ r. ⌜ r ≡ length (entriesOf (readList (now (list .entry)))) ⌝ }
 {
     let counted = lists::count_events(list);
-    events_in(counted)
+    calls::events_in(counted)
 }
 
 // Puts what the replay prints at the start of the buffer: how many bytes it has.
