@@ -53,26 +53,61 @@ fn every_mutant_is_caught() {
     assert!(missed.is_empty(), "missed: {missed:?}");
 }
 
-/// The second engine with something done to its answers and network after each run.
-struct Spoiled(fn(&[u8], &mut [i32], &mut [i32]));
+/// The second engine with something done to its answers and network after each run, or with a call for two runs that ends
+/// with something else than two runs.
+struct Spoiled {
+    after: fn(&[u8], &mut [i32], &mut [i32]),
+    twice: Option<Twice>,
+}
+
+type Twice = fn(&mut [Returned; 2], [&mut [i32]; 2], [&mut [i32]; 2]);
+
+fn spoiled(after: fn(&[u8], &mut [i32], &mut [i32])) -> Spoiled {
+    Spoiled { after, twice: None }
+}
+
+fn twofold(twice: Twice) -> Spoiled {
+    Spoiled { after: |_, _, _| {}, twice: Some(twice) }
+}
 
 impl Engine for Spoiled {
     fn name(&self) -> String {
         "spoiled".into()
     }
     fn check(&self, program: &[u8]) -> (u32, usize) {
-        second::check(program)
+        Second.check(program)
     }
     fn fresh(&self, network: &mut [i32]) -> (u32, usize) {
-        second::fresh(network)
+        Second.fresh(network)
     }
     fn event(&self, program: &[u8], network: &mut [i32], list: &[u8], answers: &mut [i32]) -> (u32, usize) {
-        second::event(program, network, list, answers)
+        Second.event(program, network, list, answers)
     }
     fn run(&self, program: &[u8], network: &mut [i32], list: &[u8], answers: &mut [i32]) -> (u32, usize) {
-        let returned = second::run(program, network, list, answers);
+        let returned = Second.run(program, network, list, answers);
         if returned == (0, 0) && list.len() > 8 {
-            (self.0)(list, network, answers);
+            (self.after)(list, network, answers);
+        }
+        returned
+    }
+    fn both(&self) -> Option<&dyn Both> {
+        self.twice.as_ref().map(|_| self as &dyn Both)
+    }
+}
+
+impl Both for Spoiled {
+    fn run_both(
+        &self,
+        program: &[u8],
+        [network1, network2]: [&mut [i32]; 2],
+        lists: [&[u8]; 2],
+        [answers1, answers2]: [&mut [i32]; 2],
+    ) -> [Returned; 2] {
+        let first = Second.run(program, network1, lists[0], answers1);
+        let second = Second.run(program, network2, lists[1], answers2);
+        let mut returned = [first, second];
+        if let Some(twice) = self.twice {
+            twice(&mut returned, [network1, network2], [answers1, answers2]);
         }
         returned
     }
@@ -81,9 +116,9 @@ impl Engine for Spoiled {
 /// An engine that depends on the order of events agrees with itself, but not with demand 3.
 #[test]
 fn demand_3_can_fail() {
-    let by_place = Spoiled(|_, _, answers| answers[1] += 1);
+    let by_place = spoiled(|_, _, answers| answers[1] += 1);
     let last_event =
-        Spoiled(|list, network, _| network[cases::network::variable(16, 0)] = i32::from(list[list.len() - 1]));
+        spoiled(|list, network, _| network[cases::network::variable(16, 0)] = i32::from(list[list.len() - 1]));
     for engine in [by_place, last_event] {
         let report = compare_all(&[&engine], 105, 2_000);
         let difference = report.difference.expect("it depends on the order");
@@ -91,67 +126,27 @@ fn demand_3_can_fail() {
     }
 }
 
-/// The second engine with a call for two runs that ends with something else than two runs.
-struct Twofold(fn(&mut [Returned; 2], [&mut [i32]; 2], [&mut [i32]; 2]));
-
-impl Engine for Twofold {
-    fn name(&self) -> String {
-        "twofold".into()
-    }
-    fn check(&self, program: &[u8]) -> (u32, usize) {
-        second::check(program)
-    }
-    fn fresh(&self, network: &mut [i32]) -> (u32, usize) {
-        second::fresh(network)
-    }
-    fn event(&self, program: &[u8], network: &mut [i32], list: &[u8], answers: &mut [i32]) -> (u32, usize) {
-        second::event(program, network, list, answers)
-    }
-    fn run(&self, program: &[u8], network: &mut [i32], list: &[u8], answers: &mut [i32]) -> (u32, usize) {
-        second::run(program, network, list, answers)
-    }
-    fn both(&self) -> Option<&dyn Both> {
-        Some(self)
-    }
-}
-
-impl Both for Twofold {
-    fn run_both(
-        &self,
-        program: &[u8],
-        [network1, network2]: [&mut [i32]; 2],
-        lists: [&[u8]; 2],
-        [answers1, answers2]: [&mut [i32]; 2],
-    ) -> [Returned; 2] {
-        let first = second::run(program, network1, lists[0], answers1);
-        let second = second::run(program, network2, lists[1], answers2);
-        let mut returned = [first, second];
-        (self.0)(&mut returned, [network1, network2], [answers1, answers2]);
-        returned
-    }
-}
-
 /// Two runs in one call are held to the same runs alone: what they return, both networks, both answer spaces.
 #[test]
 fn two_runs_in_one_call_can_fail() {
-    let right = compare_all(&[&Twofold(|_, _, _| {})], 109, 2_000);
+    let right = compare_all(&[&twofold(|_, _, _| {})], 109, 2_000);
     alike(&right);
     assert!(right.in_one_call > 500, "only {}", right.in_one_call);
     let wrong = [
-        Twofold(|returned, _, _| returned[0].1 += 1),
-        Twofold(|returned, _, _| returned[1] = returned[0]),
-        Twofold(|returned, _, _| returned[0] = returned[1]),
-        Twofold(|returned, [_, network2], _| {
+        twofold(|returned, _, _| returned[0].1 += 1),
+        twofold(|returned, _, _| returned[1] = returned[0]),
+        twofold(|returned, _, _| returned[0] = returned[1]),
+        twofold(|returned, [_, network2], _| {
             if returned[1].0 == 0 {
                 network2[0] = 7;
             }
         }),
-        Twofold(|_, [network1, _], _| {
+        twofold(|_, [network1, _], _| {
             if let Some(cell) = network1.last_mut() {
                 *cell = 7;
             }
         }),
-        Twofold(|_, _, [answers1, answers2]| {
+        twofold(|_, _, [answers1, answers2]| {
             if answers1.len() > 1 {
                 answers1.swap_with_slice(answers2);
                 answers2[1] ^= 1;
