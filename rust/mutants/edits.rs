@@ -370,4 +370,57 @@ const EDITS: &[(&str, &str, &str, &str)] = &[
     ("main may read parameters", "tree.rs", "bodies.chain([(«0», &self.main)])", "4"),
     ("variables are read in any tree", "tree.rs", "tree.misreads(parameters, &«BTreeSet::new()», &mut offending);", "self.trees().iter().flat_map(|(_, tree)| { let mut v = BTreeSet::new(); tree.rep_variables(&mut v); v }).filter(|_| tree.number != self.main.number).collect()"),
     ("main may stand unnamed beside others", "table.rs", "«!rest.is_empty() || !self.unnamed.is_empty()»", "!rest.is_empty() || self.unnamed.len() > 1"),
+    // Cases that seldom come together, and numbers that wrap.
+    (
+        "10 before 7 to 9",
+        "tree.rs",
+        "«[(7, self.sorts_broken()), (8, self.misread()), (9, self.misused())]»",
+        "if self.main.cost() > COST { return refused(10, 0); } [(7, self.sorts_broken()), (8, self.misread()), (9, self.misused())]",
+    ),
+    (
+        "10 before 8 and 9",
+        "tree.rs",
+        "«[(7, self.sorts_broken()), (8, self.misread()), (9, self.misused())]»",
+        "if self.sorts_broken().is_empty() && self.main.cost() > COST { return refused(10, 0); } [(7, self.sorts_broken()), (8, self.misread()), (9, self.misused())]",
+    ),
+    (
+        "10 before 9",
+        "tree.rs",
+        "«[(7, self.sorts_broken()), (8, self.misread()), (9, self.misused())]»",
+        "if self.sorts_broken().is_empty() && self.misread().is_empty() && self.main.cost() > COST { return refused(10, 0); } [(7, self.sorts_broken()), (8, self.misread()), (9, self.misused())]",
+    ),
+    ("the last of three calls is named", "tree.rs", "«offending.extend(callers.iter().skip(1));»", "if callers.len() > 1 { offending.extend(callers.last()); }"),
+    ("only three calls of a spatial definition are too many", "tree.rs", "«offending.extend(callers.iter().skip(1));»", "if callers.len() > 2 { offending.extend(callers.iter().skip(1)); }"),
+    (
+        "folds by what is spatial through a rep pass",
+        "tree.rs",
+        "if «definition.spatial || definition.parameters != 2»",
+        "let mut spatial = false;
+        definition.body.walk(&mut |node| spatial |= match &node.form {
+            Form::Nbr { .. } | Form::NbrRange { .. } => true,
+            Form::Call { definition, .. } => definition.spatial,
+            _ => false,
+        });
+        spatial || definition.parameters != 2",
+    ),
+    (
+        "folds by what is spatial through a call pass",
+        "tree.rs",
+        "if «definition.spatial || definition.parameters != 2»",
+        "let mut spatial = false;
+        definition.body.walk(&mut |node| spatial |= matches!(&node.form, Form::Rep { .. } | Form::Nbr { .. } | Form::NbrRange { .. }));
+        spatial || definition.parameters != 2",
+    ),
+    ("cost wraps in 31 bits", "tree.rs", "if «self.main.cost() > COST»", "self.main.cost() % (1 << 31) > COST"),
+    ("cost wraps in 32 bits", "tree.rs", "if «self.main.cost() > COST»", "self.main.cost() % (1 << 32) > COST"),
+    ("cost wraps in 33 bits", "tree.rs", "if «self.main.cost() > COST»", "self.main.cost() % (1 << 33) > COST"),
+    ("cost wraps in 64 bits", "tree.rs", "if «self.main.cost() > COST»", "self.main.cost() % (1 << 64) > COST"),
+    ("cost is a signed number of 32 bits", "tree.rs", "if «self.main.cost() > COST»", "self.main.cost() as i32 > COST as i32"),
+    ("place of 12 wraps at 256", "event.rs", "return refused(12, «events.len()»);", "events.len() % 256"),
+    ("place of 12 stops at 10", "event.rs", "return refused(12, «events.len()»);", "events.len().min(10)"),
+    ("place of 12 stops at 1,000", "event.rs", "return refused(12, «events.len()»);", "events.len().min(1_000)"),
+    ("a space longer by 64 is refused", "lib.rs", "if «answers.len() < 2 * events.len()»", "answers.len() < 2 * events.len() || answers.len() >= 2 * events.len() + 64"),
+    ("a space longer by 5,000 is refused", "lib.rs", "if «answers.len() < 2 * events.len()»", "answers.len() < 2 * events.len() || answers.len() >= 2 * events.len() + 5_000"),
+    ("far space beyond the pairs is cleared", "lib.rs", "«network.encode(cells);»", "network.encode(cells); for rest in answers.iter_mut().skip(2 * events.len() + 63) { *rest = 0; }"),
+    ("a run does at most 16,384 events", "lib.rs", "for (event, pair) in «events.iter()».zip", "events[..events.len().min(16_384)].iter()"),
 ];

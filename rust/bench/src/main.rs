@@ -23,6 +23,8 @@ struct Work {
     number: u32,
     /// How many events one call does.
     events: usize,
+    /// The network before the first call.
+    start: Vec<i32>,
 }
 
 #[derive(Clone, Copy)]
@@ -52,7 +54,7 @@ impl Work {
     }
 
     fn time(&self, engine: &dyn Engine) -> (Duration, Left) {
-        let mut network = network::fresh();
+        let mut network = self.start.clone();
         let mut space = vec![0; 2 * self.events];
         let mut returned = vec![(0, 0); self.lists.len()];
         let start = Instant::now();
@@ -107,8 +109,43 @@ fn balanced(size: usize) -> Tree {
     if size < 3 {
         return Tree::constant(size as i32);
     }
-    let left = (size - 1) / 2 | 1;
+    let left = ((size - 1) / 2) | 1;
     Tree::new(3, &[(size % 3) as u8], vec![balanced(left), balanced(size - 1 - left)])
+}
+
+/// Costs exactly 1,000,000. Each definition calls the one before it twice with two arguments; main folds what device 1 hears
+/// by the last of them, and calls them until the cost is spent.
+fn folds_and_calls() -> Draft {
+    const LAST: u8 = 12;
+    let parameter = |p: u8| Tree::new(1, &[p], vec![]);
+    let mut definitions = vec![(2, Tree::sum(parameter(0), parameter(1)))];
+    for below in 0..LAST {
+        let call = |p, q| Tree::new(12, &[below], vec![parameter(p), parameter(q)]);
+        definitions.push((2, Tree::sum(call(0, 1), call(1, 0))));
+    }
+    let body = |level: u8| 10 * (1_u32 << level) - 7;
+    let heard = Tree::new(8, &[1], vec![Tree::constant(1)]);
+    let mut main = Tree::new(11, &[LAST], vec![Tree::constant(0), heard]);
+    let mut spent = 4 + 15 * body(LAST);
+    for level in (0..=LAST).rev() {
+        while spent + body(level) + 4 <= 1_000_000 {
+            let call = Tree::new(12, &[level], vec![Tree::constant(1), Tree::constant(2)]);
+            main = Tree::sum(main, call);
+            spent += body(level) + 4;
+        }
+    }
+    while spent < 1_000_000 {
+        main = Tree::new(4, &[], vec![main]);
+        spent += 1;
+    }
+    Draft { definitions, main, orphans: vec![] }
+}
+
+/// A fresh network in which device 1 has heard all others in slot 1.
+fn hears_all() -> Vec<i32> {
+    let mut cells = network::fresh();
+    (2..=16).for_each(|b| cells[network::heard(1, b, 1)] = b as i32);
+    cells
 }
 
 fn mostly_refused(count: usize) -> Vec<Vec<u8>> {
@@ -131,6 +168,10 @@ fn works() -> (Vec<Work>, Vec<Work>) {
     assert_eq!(full.size(), 256);
     let tower = Draft { definitions: grow::tower(32), main: Tree::new(12, &[31], vec![]), orphans: vec![] };
     let dear = Draft { definitions: grow::tower(19), main: grow::spend(19, 1_000_000), orphans: vec![] };
+    let mut folds = folds_and_calls();
+    let folds_table = &table(&folds);
+    folds.main = Tree::new(4, &[], vec![folds.main]);
+    assert_eq!(Second.check(&table(&folds)), (10, 0), "one more is too much");
     let level = Draft { definitions: vec![], main: balanced(199), orphans: vec![] };
     assert_eq!(level.size(), 199);
     let run = |name: &str, program: &[u8], list: Vec<Vec<u8>>, times: usize| Work {
@@ -141,6 +182,7 @@ fn works() -> (Vec<Work>, Vec<Work>) {
         call: Call::Run,
         times,
         number: 0,
+        start: network::fresh(),
     };
     let event = |name: &str, program: &[u8], lists: Vec<Vec<u8>>, times: usize| Work {
         name: name.into(),
@@ -150,6 +192,7 @@ fn works() -> (Vec<Work>, Vec<Work>) {
         call: Call::Event,
         times,
         number: 0,
+        start: network::fresh(),
     };
     let check = |name: &str, draft: &Draft, number: u32| Work {
         name: name.into(),
@@ -159,12 +202,22 @@ fn works() -> (Vec<Work>, Vec<Work>) {
         call: Call::Check,
         times: 100,
         number,
+        start: network::fresh(),
     };
     let mut all = vec![
         run("run of 20,000 events: distance-to, a grid of 16 devices", distance_to, grid(20_000), 1),
         run("the same with 199 nodes of arithmetic, halves below halves", &table(&level), grid(20_000), 1),
         run("the same with 200 nodes of arithmetic in a chain, 100 deep", &arithmetic(), grid(20_000), 1),
-        event("one fire of a program that costs 1,000,000", &table(&dear), vec![events::fire(1)], 1),
+        event(
+            "one fire of a program that costs 1,000,000: calls without arguments",
+            &table(&dear),
+            vec![events::fire(1)],
+            1,
+        ),
+        Work {
+            start: hears_all(),
+            ..event("the same: a fold by definition, calls with two arguments", folds_table, vec![events::fire(1)], 1)
+        },
         event("one event, distance-to: fire", distance_to, vec![events::fire(1)], 200),
         event("one event: signal", distance_to, vec![events::signal(1, 1, 1)], 200),
         event("one event: link", distance_to, vec![events::link(1, 2, 10)], 200),

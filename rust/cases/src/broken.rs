@@ -383,15 +383,13 @@ fn table_end(random: &mut Random) -> Broken {
             broken("6 fields after main", bytes(&fields))
         }
         4 => {
-            // Main in the middle names what is given there and not yet named.
+            // Main names what is given there and not yet named; after the first field, a node, there is such a one.
             let fields = any_order(&draft, random).fields;
-            let place = random.below(fields.len());
-            let unnamed = Before::of(&fields[..place]).unnamed();
-            let mut early = fields[..place].to_vec();
-            if !unnamed.is_empty() {
-                early.push(Field { tag: 3, body: vec![random.pick(&unnamed)] });
-                early.extend(fields[place..].iter().cloned());
-            }
+            let unnamed = |place: usize| Before::of(&fields[..place]).unnamed();
+            let places: Vec<usize> = (1..fields.len()).filter(|place| !unnamed(*place).is_empty()).collect();
+            let place = random.pick(&places);
+            let main = Field { tag: 3, body: vec![random.pick(&unnamed(place))] };
+            let early = [&fields[..place], &[main], &fields[place..]].concat();
             broken("6 main in the middle", bytes(&early))
         }
         _ => {
@@ -403,7 +401,7 @@ fn table_end(random: &mut Random) -> Broken {
 }
 
 /// Faults of the trees: the label, the refusal.
-const TREE_FAULTS: [(&str, u32); 27] = [
+const TREE_FAULTS: [(&str, u32); 30] = [
     ("7 sense of a field", 7),
     ("7 rep with a field as initial part", 7),
     ("7 rep with a field as update", 7),
@@ -429,9 +427,47 @@ const TREE_FAULTS: [(&str, u32); 27] = [
     ("8 variable beside its rep", 8),
     ("8 variable in a definition called under the update", 8),
     ("9 spatial definition called twice", 9),
-    ("9 fold by a spatial definition", 9),
+    ("9 spatial definition called three times", 9),
+    ("9 fold by a definition with nbr or nbr-range", 9),
+    ("9 fold by a definition with rep", 9),
+    ("9 fold by a definition that calls a spatial one", 9),
     ("9 fold by a definition without two parameters", 9),
 ];
+
+/// What else the programs here are labelled with.
+const OTHER_LABELS: [&str; 25] = [
+    "1 257th node without kind",
+    "2 257th node",
+    "2 33rd definition",
+    "6 empty program",
+    "6 no main",
+    "6 bytes after main",
+    "6 fields after main",
+    "6 main in the middle",
+    "6 node unnamed",
+    "7 with 10",
+    "8 with 10",
+    "9 with 10",
+    "7-9 several faults of the trees",
+    "10 cost 1,000,001",
+    "10 cost above 1,000,000",
+    "10 tower of definitions",
+    "10 cost just above 2^31",
+    "10 cost just above 2^32",
+    "10 cost just above 2^33",
+    "10 cost just above 2^64",
+    "spoiled: truncated",
+    "spoiled: bits flipped",
+    "spoiled: one byte of a body",
+    "spoiled: fields moved",
+    "spoiled: noise",
+];
+
+/// Every label of `labelled` and `spoiled`.
+pub fn labels() -> impl Iterator<Item = &'static str> {
+    let faults = FIELD_FAULTS.into_iter().chain(TREE_FAULTS).map(|(label, _)| label);
+    faults.chain(OTHER_LABELS)
+}
 
 /// Adds `new` to a number somewhere in a number tree.
 fn graft(tree: &mut Tree, new: Tree, random: &mut Random) {
@@ -460,130 +496,185 @@ fn some_field(slot: u8) -> Tree {
     }
 }
 
-/// One fault of the trees. None where the draft has no room for it.
-fn tree_fault(label: &str, number: u32, draft: &mut Draft, random: &mut Random) -> Option<()> {
-    // The draft was grown with two slots and two variables to spare.
-    let mut used = (vec![], vec![]);
-    for (_, body) in &draft.definitions {
-        collect(body, &mut used);
+/// The slots and variables that a draft leaves free.
+struct Unused {
+    slots: Vec<u8>,
+    variables: Vec<u8>,
+}
+
+impl Unused {
+    fn of(draft: &Draft) -> Unused {
+        let mut used = (vec![], vec![]);
+        for (_, body) in &draft.definitions {
+            collect(body, &mut used);
+        }
+        collect(&draft.main, &mut used);
+        let free = |used: &[u8], low: u8| (low..=15).rev().filter(|one| !used.contains(one)).collect();
+        Unused { slots: free(&used.0, 1), variables: free(&used.1, 0) }
     }
-    collect(&draft.main, &mut used);
-    let mut slots = (1..=15).filter(|slot| !used.0.contains(slot));
-    let mut variables = (0..=15).filter(|variable| !used.1.contains(variable));
-    let mut field = || slots.next().map(some_field);
+
+    fn field(&mut self) -> Option<Tree> {
+        self.slots.pop().map(some_field)
+    }
+
+    /// A number that takes a slot.
+    fn sum_over_field(&mut self) -> Option<Tree> {
+        Some(Tree::new(10, &[0], vec![Tree::constant(1), self.field()?]))
+    }
+
+    /// A number that takes a variable.
+    fn rep(&mut self) -> Option<Tree> {
+        Some(Tree::new(5, &[self.variables.pop()?], vec![Tree::constant(1), Tree::constant(1)]))
+    }
+}
+
+/// Adds a definition; its number, or none where there is no room.
+fn define(draft: &mut Draft, parameters: usize, body: Tree) -> Option<u8> {
+    let number = draft.definitions.len() as u8;
+    draft.definitions.push((parameters as u8, body));
+    (number < 32).then_some(number)
+}
+
+/// One fault of the trees. None where the draft has no room for it; it is then spoiled.
+fn tree_fault(label: &str, number: u32, draft: &mut Draft, random: &mut Random) -> Option<()> {
+    match number {
+        7 => broken_sort(label, draft, random),
+        8 => misreading(label, draft, random),
+        _ => misuse(label, draft, random),
+    }
+}
+
+/// Faults of sort that a node shows by its operands: label, kind, and which operands are fields (f) or numbers (n).
+const OPERANDS: [(&str, u8, &str); 15] = [
+    ("7 sense of a field", 4, "f"),
+    ("7 rep with a field as initial part", 5, "fn"),
+    ("7 rep with a field as update", 5, "nf"),
+    ("7 if with a field as condition", 6, "fnn"),
+    ("7 if with a field and a number", 6, "nfn"),
+    ("7 if with a number and a field", 6, "nnf"),
+    ("7 mux with a field as condition", 7, "fnn"),
+    ("7 mux with a field as then", 7, "nfn"),
+    ("7 mux with a field as else", 7, "nnf"),
+    ("7 mux with two fields", 7, "nff"),
+    ("7 nbr of a field", 8, "f"),
+    ("7 fold by operator from a field", 10, "ff"),
+    ("7 fold by operator over a number", 10, "nn"),
+    ("7 fold by definition from a field", 11, "ff"),
+    ("7 fold by definition over a number", 11, "nn"),
+];
+
+fn broken_sort(label: &str, draft: &mut Draft, random: &mut Random) -> Option<()> {
+    let mut unused = Unused::of(draft);
     let one = || Tree::constant(1);
-    let read = |v: u8| Tree::new(2, &[v], vec![]);
-    let definitions = draft.definitions.len();
     let bad = match label {
-        "7 sense of a field" => Tree::new(4, &[], vec![field()?]),
-        "7 rep with a field as initial part" => Tree::new(5, &[variables.next()?], vec![field()?, one()]),
-        "7 rep with a field as update" => Tree::new(5, &[variables.next()?], vec![one(), field()?]),
-        "7 if with a field as condition" => Tree::new(6, &[], vec![field()?, one(), one()]),
-        "7 if with a field and a number" => Tree::new(6, &[], vec![one(), field()?, one()]),
-        "7 if with a number and a field" => Tree::new(6, &[], vec![one(), one(), field()?]),
-        "7 mux with a field as condition" => Tree::new(7, &[], vec![field()?, one(), one()]),
-        "7 mux with a field as then" => Tree::new(7, &[], vec![one(), field()?, one()]),
-        "7 mux with a field as else" => Tree::new(7, &[], vec![one(), one(), field()?]),
-        "7 mux with two fields" => Tree::new(7, &[], vec![one(), field()?, field()?]),
-        "7 nbr of a field" => {
-            let inner = field()?;
-            let nbr = Tree::new(8, &[slots.next()?], vec![inner]).offending(7);
-            let fold = Tree::new(10, &[0], vec![one(), nbr]);
-            graft(&mut draft.main, fold, random);
-            return Some(());
-        }
-        "7 fold by operator from a field" => Tree::new(10, &[0], vec![field()?, field()?]),
-        "7 fold by operator over a number" => Tree::new(10, &[0], vec![one(), one()]),
-        "7 fold by definition from a field" | "7 fold by definition over a number" => {
-            (definitions < 32).then_some(())?;
-            draft.definitions.push((2, one()));
-            let over = if label.ends_with("number") { [one(), one()] } else { [field()?, field()?] };
-            Tree::new(11, &[definitions as u8], over.to_vec())
-        }
         "7 call with a field" => {
-            (definitions < 32).then_some(())?;
             let count = random.between(1, 4);
-            draft.definitions.push((count as u8, one()));
-            let mut arguments: Vec<Tree> = (0..count).map(|_| one()).collect();
-            arguments[random.below(count)] = field()?;
-            Tree::new(12, &[definitions as u8], arguments)
+            let mut arguments = vec![one(); count];
+            arguments[random.below(count)] = unused.field()?;
+            Tree::new(12, &[define(draft, count, one())?], arguments)
         }
         "7 main is a field" => {
             let old = std::mem::replace(&mut draft.main, one());
-            draft.main = Tree::sum(old, field()?).offending(7);
+            draft.main = Tree::sum(old, unused.field()?).offending(7);
             return Some(());
         }
         "7 a body is a field" => {
-            (definitions < 32).then_some(())?;
-            let body = if random.chance(50) { field()? } else { Tree::new(6, &[], vec![one(), field()?, field()?]) };
-            draft.definitions.push((random.below(5) as u8, body.offending(7)));
-            return Some(());
+            let (then, otherwise) = (unused.field()?, unused.field()?);
+            let body = if random.chance(50) { then } else { Tree::new(6, &[], vec![one(), then, otherwise]) };
+            return define(draft, random.below(5), body.offending(7)).map(|_| ());
         }
-        "8 parameter in main" => Tree::new(1, &[random.below(4) as u8], vec![]),
+        _ => {
+            let (_, kind, sorts) = OPERANDS.into_iter().find(|(of, _, _)| *of == label).expect(label);
+            let items = match kind {
+                5 => vec![unused.variables.pop()?],
+                8 => vec![unused.slots.pop()?],
+                10 => vec![0],
+                11 => vec![define(draft, 2, one())?],
+                _ => vec![],
+            };
+            let operands: Option<Vec<Tree>> =
+                sorts.chars().map(|sort| if sort == 'f' { unused.field() } else { Some(one()) }).collect();
+            Tree::new(kind, &items, operands?)
+        }
+    };
+    let bad = bad.offending(7);
+    let number = if bad.kind == 8 { Tree::new(10, &[0], vec![one(), bad]) } else { bad };
+    graft(&mut draft.main, number, random);
+    Some(())
+}
+
+fn misreading(label: &str, draft: &mut Draft, random: &mut Random) -> Option<()> {
+    let one = || Tree::constant(1);
+    let read = |v: u8| Tree::new(2, &[v], vec![]);
+    let bad = |v: u8| read(v).offending(8);
+    let rep = |v: u8, initial: Tree, update: Tree| Tree::new(5, &[v], vec![initial, update]);
+    let v = Unused::of(draft).variables.pop();
+    let new = match label {
+        "8 parameter in main" => Tree::new(1, &[random.below(4) as u8], vec![]).offending(8),
         "8 parameter at its tree's count" => {
-            (definitions > 0).then_some(())?;
-            let d = random.below(definitions);
+            (!draft.definitions.is_empty()).then_some(())?;
+            let d = random.below(draft.definitions.len());
             let (count, body) = &mut draft.definitions[d];
             (*count < 4).then_some(())?;
             let p = random.between(usize::from(*count), 3) as u8;
-            graft(body, Tree::new(1, &[p], vec![]).offending(number), random);
+            graft(body, Tree::new(1, &[p], vec![]).offending(8), random);
             return Some(());
         }
-        "8 variable without a rep" => read(variables.next()?),
+        "8 variable without a rep" => bad(v?),
         "8 variable in its own initial part" => {
-            let v = variables.next()?;
-            let initial = if random.chance(50) { read(v).offending(8) } else { Tree::sum(one(), read(v).offending(8)) };
-            graft(&mut draft.main, Tree::new(5, &[v], vec![initial, read(v)]), random);
-            return Some(());
+            let initial = if random.chance(50) { bad(v?) } else { Tree::sum(one(), bad(v?)) };
+            rep(v?, initial, read(v?))
         }
-        "8 variable beside its rep" => {
-            let v = variables.next()?;
-            let rep = Tree::new(5, &[v], vec![one(), read(v)]);
-            graft(&mut draft.main, Tree::sum(rep, read(v).offending(8)), random);
-            return Some(());
-        }
+        "8 variable beside its rep" => Tree::sum(rep(v?, one(), read(v?)), bad(v?)),
         "8 variable in a definition called under the update" => {
-            (definitions < 32).then_some(())?;
-            let v = variables.next()?;
-            draft.definitions.push((0, Tree::sum(read(v).offending(8), one())));
-            let call = Tree::new(12, &[definitions as u8], vec![]);
-            graft(&mut draft.main, Tree::new(5, &[v], vec![one(), Tree::sum(read(v), call)]), random);
-            return Some(());
+            let d = define(draft, 0, Tree::sum(bad(v?), one()))?;
+            rep(v?, one(), Tree::sum(read(v?), Tree::new(12, &[d], vec![])))
         }
-        "9 spatial definition called twice" => {
-            (definitions + 2 <= 32).then_some(())?;
-            let fold = Tree::new(10, &[0], vec![one(), field()?]);
-            let body = if random.chance(50) { fold } else { Tree::new(5, &[variables.next()?], vec![one(), one()]) };
-            draft.definitions.push((0, body));
-            let mut called = definitions as u8;
-            if random.chance(50) {
-                // Spatial through a call.
-                draft.definitions.push((0, Tree::new(12, &[called], vec![])));
-                called += 1;
-            }
-            let call = || Tree::new(12, &[called], vec![]).offending(9);
-            graft(&mut draft.main, call(), random);
-            if random.chance(50) && draft.definitions.len() < 32 {
-                draft.definitions.push((1, call()));
-            } else {
-                graft(&mut draft.main, call(), random);
-            }
-            return Some(());
-        }
-        "9 fold by a spatial definition" => {
-            (definitions < 32).then_some(())?;
-            let fold = Tree::new(10, &[0], vec![one(), field()?]);
-            draft.definitions.push((2, fold));
-            Tree::new(11, &[definitions as u8], vec![one(), field()?])
-        }
-        "9 fold by a definition without two parameters" => {
-            (definitions < 32).then_some(())?;
-            draft.definitions.push((random.pick(&[0, 1, 3, 4]), one()));
-            Tree::new(11, &[definitions as u8], vec![one(), field()?])
-        }
-        _ => unreachable!("{label} is no fault of the trees"),
+        _ => unreachable!("{label} is no misreading"),
     };
-    graft(&mut draft.main, bad.offending(number), random);
+    graft(&mut draft.main, new, random);
+    Some(())
+}
+
+fn misuse(label: &str, draft: &mut Draft, random: &mut Random) -> Option<()> {
+    let mut unused = Unused::of(draft);
+    let one = || Tree::constant(1);
+    let folds_by = match label {
+        "9 spatial definition called twice" => return too_many_calls(2, draft, random),
+        "9 spatial definition called three times" => return too_many_calls(3, draft, random),
+        "9 fold by a definition with nbr or nbr-range" => define(draft, 2, unused.sum_over_field()?)?,
+        "9 fold by a definition with rep" => define(draft, 2, unused.rep()?)?,
+        "9 fold by a definition that calls a spatial one" => {
+            let body = if random.chance(50) { unused.rep()? } else { unused.sum_over_field()? };
+            let spatial = define(draft, 0, body)?;
+            define(draft, 2, Tree::new(12, &[spatial], vec![]))?
+        }
+        "9 fold by a definition without two parameters" => define(draft, random.pick(&[0, 1, 3, 4]), one())?,
+        _ => unreachable!("{label} is no misuse"),
+    };
+    let fold = Tree::new(11, &[folds_by], vec![one(), unused.field()?]);
+    graft(&mut draft.main, fold.offending(9), random);
+    Some(())
+}
+
+/// A spatial definition called so often; every call is marked, though the lowest is right.
+fn too_many_calls(times: usize, draft: &mut Draft, random: &mut Random) -> Option<()> {
+    let mut unused = Unused::of(draft);
+    let body = if random.chance(50) { unused.sum_over_field()? } else { unused.rep()? };
+    let mut called = define(draft, 0, body)?;
+    if random.chance(50) {
+        // Spatial through a call.
+        called = define(draft, 0, Tree::new(12, &[called], vec![]))?;
+    }
+    let call = || Tree::new(12, &[called], vec![]).offending(9);
+    graft(&mut draft.main, call(), random);
+    for _ in 1..times {
+        if random.chance(50) && draft.definitions.len() < 32 {
+            define(draft, 1, call())?;
+        } else {
+            graft(&mut draft.main, call(), random);
+        }
+    }
     Some(())
 }
 
@@ -599,50 +690,80 @@ fn collect(tree: &Tree, used: &mut (Vec<u8>, Vec<u8>)) {
     }
 }
 
-/// Faults of the trees, one or several.
+/// Puts faults of the trees into a draft, one or several; none where it has no room for them.
+fn with_tree_faults(mut draft: Draft, faults: usize, random: &mut Random) -> Option<Broken> {
+    let mut chosen: Vec<(&'static str, u32)> = TREE_FAULTS.to_vec();
+    random.shuffle(&mut chosen);
+    chosen.truncate(faults);
+    // A main that is a field must stay main: this one goes last.
+    chosen.sort_by_key(|(label, _)| *label == "7 main is a field");
+    for (label, number) in &chosen {
+        tree_fault(label, *number, &mut draft, random)?;
+    }
+    (draft.size() <= 256).then_some(())?;
+    let written = any_order(&draft, random);
+    let number = chosen.iter().map(|(_, number)| *number).min()?;
+    let mut places: Vec<usize> =
+        written.offending.iter().filter(|(row, _)| *row == number).map(|(_, node)| *node).collect();
+    places.sort();
+    let (label, place) = match chosen[..] {
+        // However many calls there are, the second lowest is the lowest that offends.
+        [(label, _)] if label.starts_with("9 spatial definition called") => (label, places[1]),
+        [(label, _)] => (label, places[0]),
+        _ => ("7-9 several faults of the trees", places[0]),
+    };
+    // Among several faults one of sort may mend another (two branches become fields), and all calls of a spatial
+    // definition are marked: the place is left open.
+    let open = chosen.len() > 1 && number != 8;
+    Some(Broken { label, program: bytes(&written.fields), expected: Some((number, (!open).then_some(place))) })
+}
+
 fn in_the_trees(faults: usize, random: &mut Random) -> Broken {
     loop {
         let any = Shape::any(random);
         let shape = Shape { nodes: any.nodes.min(200), spare: 5, ..any };
-        let mut draft = grow::accepted(shape, random);
-        let mut chosen: Vec<(&'static str, u32)> = TREE_FAULTS.to_vec();
-        random.shuffle(&mut chosen);
-        chosen.truncate(faults);
-        // A main that is a field must stay main: this one goes last.
-        chosen.sort_by_key(|(label, _)| *label == "7 main is a field");
-        let done = chosen.iter().all(|(label, number)| tree_fault(label, *number, &mut draft, random).is_some());
-        if !done || draft.size() > 256 {
-            continue;
+        if let Some(broken) = with_tree_faults(grow::accepted(shape, random), faults, random) {
+            return broken;
         }
-        let written = any_order(&draft, random);
-        let number = chosen.iter().map(|(_, number)| *number).min().unwrap_or(0);
-        let mut places: Vec<usize> =
-            written.offending.iter().filter(|(row, _)| *row == number).map(|(_, node)| *node).collect();
-        places.sort();
-        let (label, place) = match chosen[..] {
-            [("9 spatial definition called twice", _)] => (chosen[0].0, places[1]),
-            [(label, _)] => (label, places[0]),
-            _ => ("7-9 several faults of the trees", places[0]),
-        };
-        // Among several faults one of sort may mend another (two branches become fields), and both calls of a
-        // spatial definition are marked: the place is left open.
-        let open = chosen.len() > 1 && number != 8;
-        return Broken { label, program: bytes(&written.fields), expected: Some((number, (!open).then_some(place))) };
+    }
+}
+
+/// One fault of the trees in a program that costs too much: the fault's row comes first.
+fn in_dear_trees(random: &mut Random) -> Broken {
+    loop {
+        let cost = random.near(1_000_001, 3_000_000) as u64;
+        if let Some(broken) = with_tree_faults(grow::costing(cost, random), 1, random) {
+            let label = match broken.expected {
+                Some((7, _)) => "7 with 10",
+                Some((8, _)) => "8 with 10",
+                _ => "9 with 10",
+            };
+            return Broken { label, ..broken };
+        }
     }
 }
 
 fn too_dear(random: &mut Random) -> Broken {
-    let (label, draft) = match random.below(3) {
+    // A cost held in so many bits would wrap to a small one.
+    let wraps = |bits: u32, random: &mut Random| {
+        let more = random.near(1, 1_000_000) as u64;
+        grow::costing_bits(bits, more, random)
+    };
+    let (label, draft) = match random.below(7) {
         0 => ("10 cost 1,000,001", grow::costing(1_000_001, random)),
         1 => {
             let cost = random.between(1_000_001, 3_000_000) as u64;
             ("10 cost above 1,000,000", grow::costing(cost, random))
         }
-        _ => {
+        2 => {
             let levels = random.between(22, 32);
             let main = Tree::new(12, &[levels as u8 - 1], vec![]);
             ("10 tower of definitions", Draft { definitions: grow::tower(levels), main, orphans: vec![] })
         }
+        3 => ("10 cost just above 2^31", wraps(31, random)),
+        4 => ("10 cost just above 2^32", wraps(32, random)),
+        5 => ("10 cost just above 2^33", wraps(33, random)),
+        _ => ("10 cost just above 2^64", grow::costing_64_bits(random.between(1, 30))),
     };
     Broken { label, program: bytes(&any_order(&draft, random).fields), expected: Some((10, Some(0))) }
 }
@@ -653,8 +774,9 @@ pub fn labelled(random: &mut Random) -> Broken {
         0..=49 => in_a_field(random),
         50..=55 => too_many(random),
         56..=63 => table_end(random),
-        64..=88 => in_the_trees(1, random),
-        89..=95 => {
+        64..=85 => in_the_trees(1, random),
+        86..=88 => in_dear_trees(random),
+        89..=94 => {
             let faults = random.between(2, 3);
             in_the_trees(faults, random)
         }

@@ -53,13 +53,15 @@ pub fn any(devices: &[u8], odd: usize, random: &mut Random) -> Event {
     }
 }
 
-/// An event with something out of range, or with a = b.
+/// An event with one or several things out of range, or with a = b.
 fn odd_one(devices: &[u8], random: &mut Random) -> Event {
     let a = random.pick(devices);
     let b = random.pick(devices);
     let out = random.pick(&[0, 17, 18, 32, 128, 255]);
     let far = random.pick(&[1_000_001, 1_000_002, -1, -1_000_000, i32::MAX, -i32::MAX, 1 << 24]);
-    match random.below(14) {
+    let sensor = random.pick(&[16, 17, 31, 32, 255]);
+    let switch = random.pick(&[2, 3, 128, 255]);
+    match random.below(18) {
         0 => fire(out),
         1 => deliver(out, b),
         2 => deliver(a, out),
@@ -69,10 +71,14 @@ fn odd_one(devices: &[u8], random: &mut Random) -> Event {
         6 => link(a, out, 5),
         7 => link(a, b, far),
         8 => signal(out, 1, 1),
-        9 => signal(a, random.pick(&[16, 17, 31, 32, 255]), 1),
-        10 => signal(a, 1, random.pick(&[2, 3, 128, 255])),
+        9 => signal(a, sensor, 1),
+        10 => signal(a, 1, switch),
         11 => deliver(a, a),
         12 => lose(a, a),
+        13 => deliver(out, out),
+        14 => lose(out, random.pick(&[0, 17, 255])),
+        15 => link(out, b, far),
+        16 => signal(a, sensor, switch),
         _ => link(a, a, random.pick(&[0, 5, i32::MIN, far])),
     }
 }
@@ -89,36 +95,34 @@ pub struct Malformed {
     pub event: Expected,
 }
 
-/// A list with a bad field after `length` good ones.
-pub fn malformed(length: usize, devices: &[u8], random: &mut Random) -> Malformed {
-    let good = list(length, devices, 10, random);
-    let right = |tag: u8| match tag {
-        0x10 => 1,
-        0x11 | 0x12 => 2,
-        0x13 => 6,
-        _ => 3,
+/// The labels of malformed lists.
+pub const LABELS: [&str; 6] = [
+    "12 unknown tag",
+    "12 wrong length",
+    "12 wrong length in the high byte",
+    "12 cut short",
+    "12 after 300 events",
+    "12 after 3,000 events",
+];
+
+/// A field that is no event, its label, and whether it is whole.
+fn bad_field(devices: &[u8], random: &mut Random) -> (&'static str, Event, bool) {
+    let field = |tag: u8, length: usize, random: &mut Random| {
+        let junk = (0..length).map(|_| random.byte() % 18);
+        [tag, 0, length as u8].into_iter().chain(junk).collect()
     };
-    let junk = |random: &mut Random, length: usize| -> Vec<u8> { (0..length).map(|_| random.byte() % 18).collect() };
-    let mut whole = true;
-    let (label, bad) = match random.below(4) {
+    match random.below(4) {
         0 => {
             let tag = random.pick(&[0, 1, 2, 3, 0x0f, 0x15, 0x16, 0x17, 0x20, 0x90, 255]);
             let length = random.pick(&[0, 1, 2, 3, 6, 7]);
-            let mut event = vec![tag, 0, length as u8];
-            event.extend(junk(random, length));
-            ("12 unknown tag", event)
+            ("12 unknown tag", field(tag, length, random), true)
         }
         1 => {
-            let tag = random.between(0x10, 0x14) as u8;
-            let length = loop {
-                let length = random.pick(&[0, 1, 2, 3, 4, 5, 6, 7, 8]);
-                if length != right(tag) {
-                    break length;
-                }
-            };
-            let mut event = vec![tag, 0, length as u8];
-            event.extend(junk(random, length));
-            ("12 wrong length", event)
+            let tag = random.below(5);
+            let right = [1, 2, 2, 6, 3][tag];
+            let wrong: Vec<usize> = (0..=8).filter(|length| *length != right).collect();
+            let length = random.pick(&wrong);
+            ("12 wrong length", field(0x10 + tag as u8, length, random), true)
         }
         2 => {
             // The length's high byte counts.
@@ -126,14 +130,24 @@ pub fn malformed(length: usize, devices: &[u8], random: &mut Random) -> Malforme
             event[1] = random.between(1, 3) as u8;
             let body = usize::from(event[1]) * 256 + usize::from(event[2]);
             event.resize(3 + body, 1);
-            ("12 wrong length in the high byte", event)
+            ("12 wrong length in the high byte", event, true)
         }
         _ => {
-            whole = false;
             let mut event = any(devices, 10, random);
             event.truncate(random.between(1, event.len() - 1));
-            ("12 cut short", event)
+            ("12 cut short", event, false)
         }
+    }
+}
+
+/// A list with a bad field after `length` good ones.
+pub fn malformed(length: usize, devices: &[u8], random: &mut Random) -> Malformed {
+    let good = list(length, devices, 10, random);
+    let (label, bad, whole) = bad_field(devices, random);
+    let label = match length {
+        3_000.. => "12 after 3,000 events",
+        300.. => "12 after 300 events",
+        _ => label,
     };
     let mut bytes = [good.concat(), bad].concat();
     if whole && random.chance(60) {

@@ -360,7 +360,7 @@ impl Grower<'_> {
     }
 }
 
-/// Definitions that each call the one before twice (sometimes with a use of a parameter); level n costs 2^(n+2) - 3.
+/// Definitions that each call the one before twice; level n costs 2^(n+2) - 3.
 pub fn tower(levels: usize) -> Vec<(u8, Tree)> {
     let mut definitions = vec![(0, Tree::constant(1))];
     for level in 1..levels {
@@ -406,6 +406,27 @@ pub fn costing(cost: u64, random: &mut Random) -> Draft {
     Draft { definitions, main, orphans: vec![] }
 }
 
+/// A program whose main costs 2^bits and `more` (up to 1,000,000), for 31 to 33 bits.
+pub fn costing_bits(bits: u32, more: u64, random: &mut Random) -> Draft {
+    let levels = random.between(bits as usize - 3, 32);
+    Draft { definitions: tower(levels), main: spend(levels, (1 << bits) + more), orphans: vec![] }
+}
+
+/// A program whose main costs 2^64 and `more` (up to 30), from definitions that each call the one before four times.
+pub fn costing_64_bits(more: usize) -> Draft {
+    let calls = |d: u8, times: usize| {
+        let call = || Tree::new(12, &[d], vec![]);
+        (1..times).fold(call(), |tree, _| Tree::sum(tree, call()))
+    };
+    let mut definitions = vec![(0, Tree::sum(Tree::constant(1), Tree::constant(1)))];
+    for level in 1..31 {
+        definitions.push((0, calls(level - 1, 4)));
+    }
+    // Level n costs (4^(n+2) - 7) / 3, so three calls of level 30 and two sums cost 2^64 - 2.
+    let main = (0..more + 2).fold(calls(30, 3), |tree, _| Tree::new(4, &[], vec![tree]));
+    Draft { definitions, main, orphans: vec![] }
+}
+
 /// 000's distance-to, sensor 1.
 pub fn distance_to(slots: [u8; 2], variable: u8) -> Draft {
     let parameter = |p: u8| Tree::new(1, &[p], vec![]);
@@ -443,7 +464,15 @@ pub fn calculation(random: &mut Random) -> Draft {
     let body = number(2, parameters, random);
     let arguments = (0..parameters).map(|_| number(1, 0, random)).collect();
     let call = Tree::new(12, &[0], arguments);
-    let left = number(3, 0, random);
+    // Both operands of a fold may divide by 0; two parameters are needed to fold by the definition.
+    let left = match random.chance(if parameters == 2 { 70 } else { 20 }) {
+        true => {
+            let nbr = Tree::new(8, &[random.between(1, 15) as u8], vec![number(2, 0, random)]);
+            let (kind, item) = if parameters == 2 { (11, 0) } else { (10, random.below(9) as u8) };
+            Tree::new(kind, &[item], vec![number(2, 0, random), nbr])
+        }
+        false => number(3, 0, random),
+    };
     let main = Tree::new(3, &[random.below(9) as u8], vec![left, call]);
     Draft { definitions: vec![(parameters as u8, body)], main, orphans: vec![] }
 }

@@ -2,6 +2,7 @@
 #![deny(warnings)]
 #![forbid(unsafe_code)]
 
+pub mod answers;
 pub mod broken;
 pub mod events;
 pub mod grow;
@@ -13,6 +14,7 @@ pub mod table;
 use broken::Expected;
 use grow::Shape;
 use random::Random;
+use std::collections::BTreeSet;
 
 #[derive(Clone, Copy, Debug, PartialEq, Eq)]
 pub enum Call {
@@ -25,7 +27,7 @@ pub enum Call {
 }
 
 /// One call with all that is lent to it.
-#[derive(Clone, Debug)]
+#[derive(Clone, Debug, PartialEq, Eq)]
 pub struct Case {
     /// The family, and the case of 01's table that is meant.
     pub label: &'static str,
@@ -69,10 +71,50 @@ fn dear_program(random: &mut Random) -> Vec<u8> {
 
 const DONE: Expected = Some((0, Some(0)));
 
+/// The labels that cases get here.
+const LABELS: [&str; 16] = [
+    "check: accepted",
+    "fresh",
+    "fresh: 11 wrong length",
+    "event",
+    "event: space longer by 64",
+    "event: space longer by 5,000",
+    "event: dear round",
+    "run",
+    "run: space longer by 64",
+    "run: space longer by 5,000",
+    "orders (demand 3)",
+    "12 no event",
+    "12 event after the first",
+    "12 byte after the first",
+    "13 answer space too short",
+    "1-12 several at once",
+];
+
+/// Every label that some case has. One that begins with a number, or a first and a last, is refused with that.
+pub fn labels() -> BTreeSet<&'static str> {
+    broken::labels().chain(network::LABELS).chain(events::LABELS).chain(LABELS).collect()
+}
+
 /// The case with this index.
 pub fn nth(seed: u64, index: u64) -> Case {
     let random = &mut Random::new(seed, index);
-    let empty = Case {
+    match random.below(100) {
+        0..=7 => {
+            let dear = random.chance(4);
+            let program = if dear { dear_program(random) } else { program(random) };
+            Case { label: "check: accepted", program, expected: DONE, ..empty() }
+        }
+        8..=33 => check_of(broken::labelled(random)),
+        34..=42 => check_of(broken::spoiled(random)),
+        43..=44 => fresh_case(random),
+        45..=92 => Ground::any(random).case(random),
+        _ => orders(random),
+    }
+}
+
+fn empty() -> Case {
+    Case {
         label: "",
         call: Call::Check,
         program: vec![],
@@ -81,138 +123,159 @@ pub fn nth(seed: u64, index: u64) -> Case {
         reordered: vec![],
         space: 0,
         expected: None,
-    };
-    match random.below(100) {
-        0..=7 => {
-            let dear = random.chance(4);
-            let program = if dear { dear_program(random) } else { program(random) };
-            Case { label: "check: accepted", program, expected: DONE, ..empty }
-        }
-        8..=33 => {
-            let broken = broken::labelled(random);
-            Case { label: broken.label, program: broken.program, expected: broken.expected, ..empty }
-        }
-        34..=42 => {
-            let broken = broken::spoiled(random);
-            Case { label: broken.label, program: broken.program, expected: broken.expected, ..empty }
-        }
-        43..=44 => fresh_case(random, empty),
-        45..=92 => on_a_network(random, empty),
-        _ => orders(random),
     }
 }
 
-fn fresh_case(random: &mut Random, empty: Case) -> Case {
+fn check_of(broken: broken::Broken) -> Case {
+    Case { label: broken.label, program: broken.program, expected: broken.expected, ..empty() }
+}
+
+fn fresh_case(random: &mut Random) -> Case {
     let devices = network::devices(random);
     let mut network = network::sound(&devices, random);
     if random.chance(30) {
         let length = random.pick(&[0, 1, 529, network::CELLS - 1, network::CELLS + 1, 8_720]);
         network.resize(length, 3);
-        return Case {
-            label: "fresh: 11 wrong length",
-            call: Call::Fresh,
-            network,
-            expected: Some((11, Some(0))),
-            ..empty
-        };
+        let label = "fresh: 11 wrong length";
+        return Case { label, call: Call::Fresh, network, expected: Some((11, Some(0))), ..empty() };
     }
     for cell in network.iter_mut() {
         if random.chance(5) {
             *cell = random.word() as i32;
         }
     }
-    Case { label: "fresh", call: Call::Fresh, network, expected: DONE, ..empty }
+    Case { label: "fresh", call: Call::Fresh, network, expected: DONE, ..empty() }
 }
 
-/// One event or a run; mostly all goes well, else one or several things are wrong.
-fn on_a_network(random: &mut Random, empty: Case) -> Case {
-    let devices = network::devices(random);
-    let call = if random.chance(35) { Call::Event } else { Call::Run };
-    let length = match call {
-        Call::Event => 1,
-        _ => random.weighted(&[(10, 0), (20, 1), (100, 12), (100, 30), (30, 80), (10, 200), (1, 3_000)]),
-    };
-    let odd = random.pick(&[0, 5, 5, 60]);
-    let space = |random: &mut Random, events: usize| 2 * events + random.pick(&[0, 0, 0, 1, 2, 7]);
-    let fine = |random: &mut Random| Case {
-        label: if call == Call::Event { "event" } else { "run" },
-        call,
-        program: program(random),
-        network: network::sound(&devices, random),
-        list: events::list(length, &devices, odd, random).concat(),
-        space: space(random, length),
-        expected: DONE,
-        ..empty.clone()
-    };
-    match random.below(100) {
-        // One round that costs a million is enough, and slow in an engine of trees.
-        0 if random.chance(10) => Case {
-            label: "event: dear round",
-            call: Call::Event,
-            program: dear_program(random),
-            list: events::fire(random.pick(&devices)),
-            space: 2,
-            ..fine(random)
-        },
-        0..=74 => fine(random),
-        75..=83 => {
-            let unsound = network::unsound(&devices, random);
-            Case { label: unsound.label, network: unsound.cells, expected: unsound.expected, ..fine(random) }
-        }
-        84..=91 => {
-            let good = random.weighted(&[(3, 0), (3, 1), (2, 2), (1, 9)]);
-            if call == Call::Event && random.chance(30) {
-                let (label, list, place) = match random.below(3) {
-                    0 => ("12 no event", vec![], 0),
-                    1 => ("12 event after the first", events::list(2, &devices, odd, random).concat(), 1),
-                    _ => {
-                        let mut list = events::any(&devices, odd, random);
-                        list.push(random.byte());
-                        ("12 byte after the first", list, 1)
-                    }
-                };
-                return Case { label, list, space: random.below(6), expected: Some((12, Some(place))), ..fine(random) };
-            }
-            let malformed = events::malformed(good, &devices, random);
-            let expected = if call == Call::Event { malformed.event } else { malformed.run };
-            Case { label: malformed.label, list: malformed.list, space: space(random, good), expected, ..fine(random) }
-        }
-        92..=94 => {
-            let case = fine(random);
-            if length == 0 {
-                return case;
-            }
-            let space = if random.chance(50) { 2 * length - 1 } else { random.below(2 * length) };
-            Case { label: "13 answer space too short", space, expected: Some((13, Some(0))), ..case }
-        }
-        _ => several(random, fine),
-    }
+/// What the parts of a case on one network have in common.
+struct Ground {
+    devices: Vec<u8>,
+    /// One event or a run.
+    call: Call,
+    /// How many events.
+    length: usize,
+    /// Percent of odd events.
+    odd: usize,
 }
 
-/// Several of program, network, list and answer space are bad: the first row counts.
-fn several(random: &mut Random, fine: impl Fn(&mut Random) -> Case) -> Case {
-    let mut case = fine(random);
-    case.label = "1-13 several at once";
-    if random.chance(50) {
-        case.space = 0;
-        case.expected = if case.list.is_empty() { DONE } else { Some((13, Some(0))) };
+impl Ground {
+    fn any(random: &mut Random) -> Ground {
+        let devices = network::devices(random);
+        let call = if random.chance(35) { Call::Event } else { Call::Run };
+        let length = match call {
+            Call::Event => 1,
+            _ => random.weighted(&[(10, 0), (20, 1), (100, 12), (100, 30), (30, 80), (10, 200), (1, 3_000)]),
+        };
+        Ground { devices, call, length, odd: random.pick(&[0, 5, 5, 60]) }
     }
-    if random.chance(50) {
-        let malformed = events::malformed(random.below(2), &[1, 2], random);
-        case.list = malformed.list;
-        case.expected = if case.call == Call::Event { malformed.event } else { malformed.run };
+
+    /// Mostly all goes well, else one or several things are wrong.
+    fn case(&self, random: &mut Random) -> Case {
+        match random.below(100) {
+            // One round that costs a million is enough, and slow in an engine of trees.
+            0 if random.chance(10) => Case {
+                label: "event: dear round",
+                call: Call::Event,
+                program: dear_program(random),
+                list: events::fire(random.pick(&self.devices)),
+                space: 2,
+                ..self.fine(random)
+            },
+            0..=74 => self.fine(random),
+            75..=83 => {
+                let unsound = network::unsound(&self.devices, random);
+                Case { label: unsound.label, network: unsound.cells, expected: unsound.expected, ..self.fine(random) }
+            }
+            84..=91 if self.call == Call::Event && random.chance(30) => self.not_one(random),
+            84..=91 => self.malformed(random),
+            92..=94 if self.length > 0 => {
+                let full = 2 * self.length;
+                let space = if random.chance(50) { full - 1 } else { random.below(full) };
+                let label = "13 answer space too short";
+                Case { label, space, expected: Some((13, Some(0))), ..self.fine(random) }
+            }
+            _ => self.several(random),
+        }
     }
-    if random.chance(50) {
-        let unsound = network::unsound(&[1, 2], random);
-        case.network = unsound.cells;
-        case.expected = unsound.expected;
+
+    fn fine(&self, random: &mut Random) -> Case {
+        let spare = random.weighted(&[(60, 0), (20, 1), (20, 2), (20, 7), (3, 64), (2, 5_000)]);
+        let label = match (self.call, spare) {
+            (Call::Event, 64) => "event: space longer by 64",
+            (Call::Event, 5_000) => "event: space longer by 5,000",
+            (Call::Event, _) => "event",
+            (_, 64) => "run: space longer by 64",
+            (_, 5_000) => "run: space longer by 5,000",
+            _ => "run",
+        };
+        Case {
+            label,
+            call: self.call,
+            program: program(random),
+            network: network::sound(&self.devices, random),
+            list: events::list(self.length, &self.devices, self.odd, random).concat(),
+            space: 2 * self.length + spare,
+            expected: DONE,
+            ..empty()
+        }
     }
-    if random.chance(50) {
-        let broken = broken::labelled(random);
-        case.program = broken.program;
-        case.expected = broken.expected;
+
+    /// For the one-event call: a list of good events, but not of one.
+    fn not_one(&self, random: &mut Random) -> Case {
+        let (label, list, place) = match random.below(3) {
+            0 => ("12 no event", vec![], 0),
+            1 => ("12 event after the first", events::list(2, &self.devices, self.odd, random).concat(), 1),
+            _ => {
+                let mut list = events::any(&self.devices, self.odd, random);
+                list.push(random.byte());
+                ("12 byte after the first", list, 1)
+            }
+        };
+        Case { label, list, space: random.below(6), expected: Some((12, Some(place))), ..self.fine(random) }
     }
-    case
+
+    fn malformed(&self, random: &mut Random) -> Case {
+        let good = random.weighted(&[(30, 0), (30, 1), (20, 2), (10, 9), (3, 300), (2, 3_000)]);
+        // The place of one event is 0 or 1: a long list is run.
+        let call = if good > 9 { Call::Run } else { self.call };
+        let malformed = events::malformed(good, &self.devices, random);
+        let expected = if call == Call::Event { malformed.event } else { malformed.run };
+        let space = 2 * good + random.pick(&[0, 0, 0, 1, 2, 7]);
+        Case { label: malformed.label, call, list: malformed.list, space, expected, ..self.fine(random) }
+    }
+
+    /// Two or more of program, network, list and answer space are bad: the first row counts.
+    fn several(&self, random: &mut Random) -> Case {
+        let mut bad = vec!["program", "network", "list", "space"];
+        random.shuffle(&mut bad);
+        bad.truncate(random.between(2, 4));
+        let mut case = Case { label: "1-12 several at once", ..self.fine(random) };
+        if bad.contains(&"space") {
+            // There is an event to be answered.
+            if case.list.is_empty() {
+                case.list = events::fire(1);
+            }
+            case.space = 0;
+            case.expected = Some((13, Some(0)));
+        }
+        if bad.contains(&"list") {
+            let good = random.between(if case.space == 0 { 1 } else { 0 }, 2);
+            let malformed = events::malformed(good, &[1, 2], random);
+            case.list = malformed.list;
+            case.expected = if case.call == Call::Event { malformed.event } else { malformed.run };
+        }
+        if bad.contains(&"network") {
+            let unsound = network::unsound(&[1, 2], random);
+            case.network = unsound.cells;
+            case.expected = unsound.expected;
+        }
+        if bad.contains(&"program") {
+            let broken = broken::labelled(random);
+            case.program = broken.program;
+            case.expected = broken.expected;
+        }
+        case
+    }
 }
 
 fn orders(random: &mut Random) -> Case {
@@ -236,7 +299,6 @@ fn orders(random: &mut Random) -> Case {
 #[cfg(test)]
 mod tests {
     use super::*;
-    use std::collections::BTreeSet;
 
     /// Accepted programs reach every kind and every limit.
     #[test]
@@ -245,17 +307,15 @@ mod tests {
         let mut parents = BTreeSet::new();
         let [mut nodes, mut definitions, mut slots, mut variables, mut parameters] = [0; 5];
         for index in 0..2_000 {
-            let mut rest = &program(&mut Random::new(9, index))[..];
-            let mut bodies: Vec<Vec<u8>> = vec![];
+            let program = program(&mut Random::new(9, index));
+            let mut bodies: Vec<&[u8]> = vec![];
             let mut counts = vec![];
-            while let [tag, high, low, after @ ..] = rest {
-                let (body, after) = after.split_at(usize::from(*high) * 256 + usize::from(*low));
-                match tag {
-                    1 => bodies.push(body.to_vec()),
-                    2 => counts.push(usize::from(body[0])),
+            for field in table::split(&program) {
+                match field[0] {
+                    1 => bodies.push(&field[3..]),
+                    2 => counts.push(usize::from(field[3])),
                     _ => {}
                 }
-                rest = after;
             }
             let of = |kind: u8| bodies.iter().filter(|body| body[0] == kind).count();
             kinds.extend(bodies.iter().map(|body| body[0]));
@@ -288,8 +348,7 @@ mod tests {
     #[test]
     fn a_case_is_its_seed_and_index() {
         for index in 0..200 {
-            let (one, two) = (nth(4, index), nth(4, index));
-            assert_eq!((one.program, one.network, one.list), (two.program, two.network, two.list));
+            assert_eq!(nth(4, index), nth(4, index));
         }
     }
 }

@@ -53,17 +53,20 @@ pub fn devices(random: &mut Random) -> Vec<u8> {
 
 /// A sound network; busy among `devices`, as when fresh elsewhere or busy everywhere.
 pub fn sound(devices: &[u8], random: &mut Random) -> Vec<i32> {
+    match random.below(10) {
+        0..=2 => fresh(),
+        3..=8 => busy(devices, random),
+        _ => busy(&(1..=16).collect::<Vec<u8>>(), random),
+    }
+}
+
+/// A sound network, busy among `devices` and as when fresh elsewhere.
+pub fn busy(devices: &[u8], random: &mut Random) -> Vec<i32> {
     let mut cells = fresh();
-    let all: Vec<u8> = (1..=16).collect();
-    let busy = match random.below(10) {
-        0..=2 => return cells,
-        3..=8 => devices,
-        _ => &all,
-    };
     let full = random.pick(&[10, 40, 80, 100]);
     let zeros = random.pick(&[0, 50, 90]);
     let slot = |random: &mut Random| if random.chance(zeros) { 0 } else { random.number() };
-    for a in busy {
+    for a in devices {
         let a = usize::from(*a);
         for v in 0..16 {
             if random.chance(full) {
@@ -75,31 +78,41 @@ pub fn sound(devices: &[u8], random: &mut Random) -> Vec<i32> {
             1 => random.below(65_536) as i32,
             _ => random.below(8) as i32 | random.pick(&[0, 32_768]),
         };
-        for b in busy {
-            let b = usize::from(*b);
-            if a == b {
-                continue;
-            }
+        for b in devices.iter().map(|b| usize::from(*b)).filter(|b| *b != a) {
             if random.chance(60) {
                 cells[heard(a, b, 0)] = random.pick(&[0, 1, 5, 10, 999_999, 1_000_000]);
             }
+            let pends = random.chance(50);
+            cells[pending(a, b, 0)] = i32::from(pends);
             for i in 1..16 {
                 if random.chance(full) {
                     cells[heard(a, b, i)] = slot(random);
                 }
-            }
-            if random.chance(50) {
-                cells[pending(a, b, 0)] = 1;
-                for i in 1..16 {
-                    if random.chance(full) {
-                        cells[pending(a, b, i)] = slot(random);
-                    }
+                if pends && random.chance(full) {
+                    cells[pending(a, b, i)] = slot(random);
                 }
             }
         }
     }
     cells
 }
+
+/// The labels of unsound networks.
+pub const LABELS: [&str; 13] = [
+    "11 sensors below 0",
+    "11 sensors above 65,535",
+    "11 distance below 0",
+    "11 distance above 1,000,000",
+    "11 mark above 1",
+    "11 mark below 0",
+    "11 slot present where the mark is 0",
+    "11 own distance",
+    "11 own heard slot",
+    "11 own mark",
+    "11 own pending slot",
+    "11 several cells",
+    "11 wrong length",
+];
 
 /// Breaks one rule of a network; the label and the cell.
 fn spoil(cells: &mut [i32], random: &mut Random) -> (&'static str, usize) {
@@ -151,8 +164,8 @@ pub fn unsound(devices: &[u8], random: &mut Random) -> Unsound {
         return Unsound { label: "11 wrong length", cells, expected: Some((11, Some(0))) };
     }
     let mut cells = sound(devices, random);
-    let (label, place) = spoil(&mut cells, random);
     if random.chance(70) {
+        let (label, place) = spoil(&mut cells, random);
         return Unsound { label, cells, expected: Some((11, Some(place))) };
     }
     for _ in 0..random.between(1, 6) {
@@ -163,5 +176,7 @@ pub fn unsound(devices: &[u8], random: &mut Random) -> Unsound {
             cells[at] = random.pick(&[0, 1, 2, -1, 70_000, ABSENT, i32::MAX]);
         }
     }
+    // The last one is not mended by another.
+    spoil(&mut cells, random);
     Unsound { label: "11 several cells", cells, expected: None }
 }

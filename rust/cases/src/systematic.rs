@@ -1,4 +1,5 @@
-//! Cases that leave nothing to chance: every pair of edge numbers, every cell, every truncation, bit and event byte.
+//! Cases that leave little to chance: every pair of edge numbers, every cell, every truncation, bit and event byte of
+//! some programs and events, and one long run.
 
 use crate::grow::{self, Shape};
 use crate::random::Random;
@@ -25,6 +26,9 @@ const EDGES: [i32; 17] = [
     i32::MAX,
 ];
 
+/// All devices.
+const ALL: [u8; 16] = [1, 2, 3, 4, 5, 6, 7, 8, 9, 10, 11, 12, 13, 14, 15, 16];
+
 fn case(label: &'static str, call: Call, program: &[u8]) -> Case {
     Case {
         label,
@@ -43,12 +47,26 @@ fn plain(main: Tree) -> Vec<u8> {
     bytes(&write(&draft, true, &mut Random::new(0, 0)).fields)
 }
 
+/// The labels of all systematic cases.
+pub const LABELS: [&str; 8] = [
+    "each pair of edge numbers",
+    "each cell",
+    "each truncation",
+    "each truncation of a full table",
+    "each bit",
+    "each byte of an event",
+    "each truncation of an event",
+    "run of 20,000 events",
+];
+
 /// All systematic cases. One call each; `see` gets them in turn.
 pub fn all(see: &mut dyn FnMut(Case)) {
     arithmetic(see);
     cells(see);
     programs(see);
+    full_table(see);
     event_bytes(see);
+    see(long_run());
 }
 
 /// Each operator on each pair of edge numbers: as numbers, as a field and a number both ways round, as two fields, folded.
@@ -85,14 +103,10 @@ fn arithmetic(see: &mut dyn FnMut(Case)) {
     }
 }
 
-/// Each cell with numbers around every limit, on a fresh and on a busy network.
+/// Each cell with one or two of the numbers around the limits (which, goes by the cell), on a fresh and on a busy network.
 fn cells(see: &mut dyn FnMut(Case)) {
     let program = plain(Tree::constant(1));
-    let all: Vec<u8> = (1..=16).collect();
-    let mut busy = network::fresh();
-    while busy == network::fresh() {
-        busy = network::sound(&all, &mut Random::new(11, 4));
-    }
+    let busy = network::busy(&ALL, &mut Random::new(11, 4));
     for (start, numbers) in [
         (network::fresh(), &[network::ABSENT, -1, 0, 1, 2, 65_535, 65_536, 1_000_000, 1_000_001][..]),
         (busy, &[network::ABSENT, -1, 0, 2, 70_000][..]),
@@ -126,6 +140,32 @@ fn programs(see: &mut dyn FnMut(Case)) {
             flipped[bit / 8] ^= 1 << (bit % 8);
             see(case("each bit", Call::Check, &flipped));
         }
+    }
+}
+
+/// Each truncation of a program that fills its table.
+fn full_table(see: &mut dyn FnMut(Case)) {
+    let mut random = Random::new(22, 22);
+    let shape = Shape { nodes: 256, definitions: 32, cost: 4_000, spare: 0, deep: 20 };
+    let mut draft = grow::accepted(shape, &mut random);
+    grow::pad(&mut draft, 256);
+    assert_eq!((draft.size(), draft.definitions.len()), (256, 32));
+    let program = bytes(&write(&draft, false, &mut random).fields);
+    for length in 0..=program.len() {
+        see(case("each truncation of a full table", Call::Check, &program[..length]));
+    }
+}
+
+/// A run of 20,000 events of all devices.
+pub fn long_run() -> Case {
+    let mut random = Random::new(23, 23);
+    let program = bytes(&write(&grow::distance_to([1, 2], 0), true, &mut random).fields);
+    Case {
+        network: network::busy(&ALL, &mut random),
+        list: events::list(20_000, &ALL, 5, &mut random).concat(),
+        space: 40_000,
+        expected: crate::DONE,
+        ..case("run of 20,000 events", Call::Run, &program)
     }
 }
 

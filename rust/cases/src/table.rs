@@ -70,6 +70,19 @@ pub fn bytes(fields: &[Field]) -> Vec<u8> {
     fields.iter().flat_map(Field::bytes).collect()
 }
 
+/// The fields of a table or list that was read, each with its tag and length.
+pub fn split(bytes: &[u8]) -> Vec<&[u8]> {
+    let mut fields = vec![];
+    let mut rest = bytes;
+    while rest.len() >= 3 {
+        let length = 3 + usize::from(u16::from_be_bytes([rest[1], rest[2]]));
+        let (field, after) = rest.split_at(length.min(rest.len()));
+        fields.push(field);
+        rest = after;
+    }
+    fields
+}
+
 /// The fields of a draft, and the numbers its offending nodes got.
 pub struct Written {
     pub fields: Vec<Field>,

@@ -20,6 +20,12 @@
 //! assert_eq!(answers(&space).collect::<Vec<_>>(), [Some(Answer::Done(0)), Some(Answer::Done(1))]);
 //! # Ok::<(), cuddystove::Refusal>(())
 //! ```
+//!
+//! # Stack
+//!
+//! A call needs 256 KiB of free stack, [`check`] 128 KiB: measured on the deepest programs by `tests/host`, not proved. It is
+//! the one thing that a host owes beyond safe Rust: with less, the call may write past the end of the stack. Main threads
+//! and `std::thread`'s have some MiB; a thread made with a small stack of its own needs this much and what else it uses.
 #![deny(warnings, missing_docs)]
 
 use std::fmt;
@@ -47,7 +53,8 @@ pub struct Refusal {
 }
 
 impl Refusal {
-    fn new(number: u32, place: usize) -> Refusal {
+    /// The refusal with this number and place, as [`plain`] returns them.
+    pub fn new(number: u32, place: usize) -> Refusal {
         let name = match number {
             1 => "bad field",
             2 => "too many",
@@ -146,6 +153,17 @@ impl Answer {
         }
     }
 
+    /// A short name for the number.
+    pub fn name(self) -> &'static str {
+        match self {
+            Answer::Done(_) => "done",
+            Answer::OutOfRange => "bad item",
+            Answer::Itself => "to itself",
+            Answer::NothingPending => "nothing pending",
+            Answer::DividedByZero(_) => "divided by 0",
+        }
+    }
+
     /// What came of the event, in a sentence for people.
     pub fn sentence(self) -> String {
         match self {
@@ -171,22 +189,25 @@ fn result((number, place): (u32, usize)) -> Result<(), Refusal> {
     }
 }
 
-/// Checks a program; refused with 1 to 10.
+/// Checks a program; refused with 1 to 10. Needs 128 KiB of free stack.
 pub fn check(program: &[u8]) -> Result<(), Refusal> {
     result(plain::check(program))
 }
 
-/// Makes a network fresh; refused with 11 where it is not [`CELLS`] long.
+/// Makes a network fresh; refused with 11 where it is not [`CELLS`] long. Needs 256 KiB of free
+/// stack.
 pub fn fresh(network: &mut [i32]) -> Result<(), Refusal> {
     result(plain::fresh(network))
 }
 
-/// Does the one event of `list`; its answer is the first pair of `space`. Refused with 1 to 13.
+/// Does the one event of `list`; its answer is the first pair of `space`. Refused with 1 to 13. Needs 256 KiB of free
+/// stack.
 pub fn event(program: &[u8], network: &mut [i32], list: &[u8], space: &mut [i32]) -> Result<(), Refusal> {
     result(plain::event(program, network, list, space))
 }
 
-/// Does the events of `list` from first to last; each leaves a pair in `space`. Refused with 1 to 13.
+/// Does the events of `list` from first to last; each leaves a pair in `space`. Refused with 1 to 13. Needs 256 KiB of
+/// free stack.
 pub fn run(program: &[u8], network: &mut [i32], list: &[u8], space: &mut [i32]) -> Result<(), Refusal> {
     result(plain::run(program, network, list, space))
 }
@@ -195,7 +216,7 @@ pub fn run(program: &[u8], network: &mut [i32], list: &[u8], space: &mut [i32]) 
 ///
 /// If the networks were equal and the lists are orders of the same events in which clashing events keep their order,
 /// and neither run is refused, then the networks end equal and the k-th copy of each event has the same answer in both
-/// (01, demand 3; proved of this call).
+/// (01, demand 3; proved of this call). Needs 256 KiB of free stack.
 pub fn run_both(
     program: &[u8],
     networks: [&mut [i32]; 2],
@@ -205,7 +226,7 @@ pub fn run_both(
     plain::run_both(program, networks, lists, spaces).map(result)
 }
 
-/// The calls with 01's number and place as they are.
+/// The calls with 01's number and place as they are; each needs as much stack as the call it is named after.
 pub mod plain {
     #[repr(C)]
     struct Verdict {

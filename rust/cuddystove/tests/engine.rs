@@ -1,5 +1,7 @@
 //! The wrapper with the library behind it: each call, accepted and refused, and refusals in words.
 
+use std::collections::BTreeSet;
+
 use cuddystove::{answers, check, event, fresh, run, run_both, Answer, Refusal, ABSENT, BLOCK, CELLS, INF};
 
 /// 01's program (i): (rep x 0 (+ x 1)).
@@ -125,6 +127,30 @@ fn refusals_in_words() {
     network[2 * BLOCK + 273 + 16 * 4] = 2;
     let refusal = run(&COUNTER, &mut network, &[], &mut []).expect_err("unsound");
     assert_eq!(refusal.sentence(), "Cell 1395 of the network is unsound (device 3, cell 337 of its block).");
+}
+
+/// Each number has a name and a sentence of its own, be it returned or answered.
+#[test]
+fn every_number_has_its_words() {
+    let returned = (1..=13).map(|number| Refusal::new(number, 7)).map(|refusal| (refusal.name, refusal.sentence()));
+    let answered = (14..=17).map(|number| {
+        let answer = Answer::from_pair([number, 0]).expect("an answer");
+        assert_eq!(answer.number(), number as u32);
+        (answer.name(), answer.sentence())
+    });
+    let done = (Answer::Done(0).name(), Answer::Done(0).sentence());
+    let other = Refusal::new(18, 7);
+    let words: Vec<(&str, String)> = returned.chain(answered).chain([done, (other.name, other.sentence())]).collect();
+    let names: BTreeSet<&str> = words.iter().map(|(name, _)| *name).collect();
+    let sentences: BTreeSet<&str> = words.iter().map(|(_, sentence)| &sentence[..]).collect();
+    assert_eq!((words.len(), names.len(), sentences.len()), (19, 19, 19), "{words:?}");
+    for (name, sentence) in &words {
+        assert!(!name.is_empty() && sentence.ends_with('.'), "{name}: {sentence}");
+    }
+    // The place stands in the sentence of a refusal that has one.
+    for number in [1, 2, 3, 4, 5, 7, 8, 9, 11, 12] {
+        assert!(Refusal::new(number, 4_321).sentence().contains("4321"), "{number}");
+    }
 }
 
 #[test]

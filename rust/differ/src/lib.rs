@@ -2,23 +2,29 @@
 #![deny(warnings)]
 #![forbid(unsafe_code)]
 
+mod lent;
+mod report;
 mod show;
 
+pub use report::Report;
+
+use cases::table::split;
 use cases::{Call, Case};
+use lent::Lent;
 use mutants::Mutant;
 use std::collections::BTreeMap;
 use std::panic::{catch_unwind, AssertUnwindSafe};
 
-/// A number and a place.
+/// What a call returned: a number and a place.
 pub type Returned = (u32, usize);
 
-/// An engine: 01's four calls, each returning a number and a place.
+/// An engine: 01's four calls.
 pub trait Engine {
     fn name(&self) -> String;
-    fn check(&self, program: &[u8]) -> (u32, usize);
-    fn fresh(&self, network: &mut [i32]) -> (u32, usize);
-    fn event(&self, program: &[u8], network: &mut [i32], list: &[u8], answers: &mut [i32]) -> (u32, usize);
-    fn run(&self, program: &[u8], network: &mut [i32], list: &[u8], answers: &mut [i32]) -> (u32, usize);
+    fn check(&self, program: &[u8]) -> Returned;
+    fn fresh(&self, network: &mut [i32]) -> Returned;
+    fn event(&self, program: &[u8], network: &mut [i32], list: &[u8], answers: &mut [i32]) -> Returned;
+    fn run(&self, program: &[u8], network: &mut [i32], list: &[u8], answers: &mut [i32]) -> Returned;
     /// The engine's call for two runs, if it has one.
     fn both(&self) -> Option<&dyn Both> {
         None
@@ -43,16 +49,16 @@ impl Engine for Second {
     fn name(&self) -> String {
         "second engine".into()
     }
-    fn check(&self, program: &[u8]) -> (u32, usize) {
+    fn check(&self, program: &[u8]) -> Returned {
         second::check(program)
     }
-    fn fresh(&self, network: &mut [i32]) -> (u32, usize) {
+    fn fresh(&self, network: &mut [i32]) -> Returned {
         second::fresh(network)
     }
-    fn event(&self, program: &[u8], network: &mut [i32], list: &[u8], answers: &mut [i32]) -> (u32, usize) {
+    fn event(&self, program: &[u8], network: &mut [i32], list: &[u8], answers: &mut [i32]) -> Returned {
         second::event(program, network, list, answers)
     }
-    fn run(&self, program: &[u8], network: &mut [i32], list: &[u8], answers: &mut [i32]) -> (u32, usize) {
+    fn run(&self, program: &[u8], network: &mut [i32], list: &[u8], answers: &mut [i32]) -> Returned {
         second::run(program, network, list, answers)
     }
 }
@@ -61,16 +67,16 @@ impl Engine for Mutant {
     fn name(&self) -> String {
         format!("mutant '{}'", Mutant::name(*self))
     }
-    fn check(&self, program: &[u8]) -> (u32, usize) {
+    fn check(&self, program: &[u8]) -> Returned {
         Mutant::check(*self, program)
     }
-    fn fresh(&self, network: &mut [i32]) -> (u32, usize) {
+    fn fresh(&self, network: &mut [i32]) -> Returned {
         Mutant::fresh(*self, network)
     }
-    fn event(&self, program: &[u8], network: &mut [i32], list: &[u8], answers: &mut [i32]) -> (u32, usize) {
+    fn event(&self, program: &[u8], network: &mut [i32], list: &[u8], answers: &mut [i32]) -> Returned {
         Mutant::event(*self, program, network, list, answers)
     }
-    fn run(&self, program: &[u8], network: &mut [i32], list: &[u8], answers: &mut [i32]) -> (u32, usize) {
+    fn run(&self, program: &[u8], network: &mut [i32], list: &[u8], answers: &mut [i32]) -> Returned {
         Mutant::run(*self, program, network, list, answers)
     }
 }
@@ -84,16 +90,16 @@ impl Engine for Proved {
     fn name(&self) -> String {
         "proved engine".into()
     }
-    fn check(&self, program: &[u8]) -> (u32, usize) {
+    fn check(&self, program: &[u8]) -> Returned {
         cuddystove::plain::check(program)
     }
-    fn fresh(&self, network: &mut [i32]) -> (u32, usize) {
+    fn fresh(&self, network: &mut [i32]) -> Returned {
         cuddystove::plain::fresh(network)
     }
-    fn event(&self, program: &[u8], network: &mut [i32], list: &[u8], answers: &mut [i32]) -> (u32, usize) {
+    fn event(&self, program: &[u8], network: &mut [i32], list: &[u8], answers: &mut [i32]) -> Returned {
         cuddystove::plain::event(program, network, list, answers)
     }
-    fn run(&self, program: &[u8], network: &mut [i32], list: &[u8], answers: &mut [i32]) -> (u32, usize) {
+    fn run(&self, program: &[u8], network: &mut [i32], list: &[u8], answers: &mut [i32]) -> Returned {
         cuddystove::plain::run(program, network, list, answers)
     }
     fn both(&self) -> Option<&dyn Both> {
@@ -117,93 +123,84 @@ impl Both for Proved {
 /// What a call returned and left.
 #[derive(Clone, Debug, PartialEq, Eq)]
 pub struct Outcome {
-    pub returned: (u32, usize),
+    pub returned: Returned,
     pub network: Vec<i32>,
     pub answers: Vec<i32>,
 }
 
-/// Cells kept around each lent buffer.
-const GUARD: usize = 64;
-
-fn guard(at: usize) -> i32 {
-    (at as i32).wrapping_mul(0x1f12_3bb5) ^ 0x2545_f491
+/// What an answer space of this length holds before a call.
+fn unanswered(length: usize) -> Vec<i32> {
+    (0..length).map(|at| -1_000 - at as i32).collect()
 }
 
-/// What the answer space holds before a call.
-fn unanswered(at: usize) -> i32 {
-    -1_000 - at as i32
+/// What one run is lent besides its program.
+struct Loan<'a> {
+    network: Lent<'a, i32>,
+    list: Lent<'a, u8>,
+    answers: Lent<'a, i32>,
 }
 
-/// Lends `cells` to `call` between guard cells; an error if one of those changed.
-fn guarded<T>(cells: &mut Vec<i32>, call: impl FnOnce(&mut [i32]) -> T) -> Result<T, String> {
-    let length = cells.len();
-    let mut buffer: Vec<i32> = (0..GUARD).map(guard).collect();
-    buffer.extend(&*cells);
-    buffer.extend((GUARD..2 * GUARD).map(guard));
-    let result = call(&mut buffer[GUARD..GUARD + length]);
-    let kept = (0..GUARD).all(|at| buffer[at] == guard(at) && buffer[GUARD + length + at] == guard(GUARD + at));
-    cells.copy_from_slice(&buffer[GUARD..GUARD + length]);
-    if kept {
-        Ok(result)
-    } else {
-        Err("it wrote outside a lent slice".into())
+impl<'a> Loan<'a> {
+    fn new(case: &'a Case, list: &'a [u8], answers: &'a [i32]) -> Loan<'a> {
+        Loan {
+            network: Lent::new("network", &case.network),
+            list: Lent::new("list", list),
+            answers: Lent::new("answer space", answers),
+        }
     }
+
+    /// What a call left of it; an error where it changed what it may not.
+    fn outcome(self, returned: Returned) -> Result<Outcome, String> {
+        self.list.unchanged()?;
+        Ok(Outcome { returned, network: self.network.back()?, answers: self.answers.back()? })
+    }
+}
+
+fn caught<T>(call: impl FnOnce() -> T) -> Result<T, String> {
+    catch_unwind(AssertUnwindSafe(call)).map_err(|_| "it panicked".into())
 }
 
 /// Does a case's call on an engine; `list` is the case's or its reordering.
 fn perform(engine: &dyn Engine, case: &Case, list: &[u8]) -> Result<Outcome, String> {
-    let mut network = case.network.clone();
-    let mut answers: Vec<i32> = (0..case.space).map(unanswered).collect();
-    let call = || match case.call {
-        Call::Check => Ok(engine.check(&case.program)),
-        Call::Fresh => guarded(&mut network, |network| engine.fresh(network)),
-        Call::Event | Call::Run | Call::Orders => guarded(&mut network, |network| {
-            guarded(&mut answers, |answers| match case.call {
-                Call::Event => engine.event(&case.program, network, list, answers),
-                _ => engine.run(&case.program, network, list, answers),
-            })
-        })?,
-    };
-    let returned = catch_unwind(AssertUnwindSafe(call)).map_err(|_| "it panicked".to_string())??;
-    Ok(Outcome { returned, network, answers })
+    let answers = unanswered(case.space);
+    let program = Lent::new("program", &case.program);
+    let mut loan = Loan::new(case, list, &answers);
+    let returned = caught(|| {
+        let (program, network) = (program.lend(), loan.network.lend_mut());
+        let (list, answers) = (loan.list.lend(), loan.answers.lend_mut());
+        match case.call {
+            Call::Check => engine.check(program),
+            Call::Fresh => engine.fresh(network),
+            Call::Event => engine.event(program, network, list, answers),
+            Call::Run | Call::Orders => engine.run(program, network, list, answers),
+        }
+    })?;
+    program.unchanged()?;
+    loan.outcome(returned)
 }
 
 /// Does two runs in one call: they must do what the same runs did apart.
 fn perform_both(engine: &dyn Both, case: &Case, lists: [&[u8]; 2], apart: [&Outcome; 2]) -> Result<(), String> {
-    let (mut network1, mut network2) = (case.network.clone(), case.network.clone());
-    let mut answers1: Vec<i32> = (0..case.space).map(unanswered).collect();
-    let mut answers2 = answers1.clone();
-    let [returned1, returned2] = guarded(&mut network1, |network1| {
-        guarded(&mut network2, |network2| {
-            guarded(&mut answers1, |answers1| {
-                guarded(&mut answers2, |answers2| {
-                    engine.run_both(&case.program, [network1, network2], lists, [answers1, answers2])
-                })
-            })
-        })
-    })????;
-    let first = Outcome { returned: returned1, network: network1, answers: answers1 };
-    let second = Outcome { returned: returned2, network: network2, answers: answers2 };
-    for (which, both, apart) in [("first", first, apart[0]), ("second", second, apart[1])] {
+    let answers = unanswered(case.space);
+    let program = Lent::new("program", &case.program);
+    let [mut one, mut two] = lists.map(|list| Loan::new(case, list, &answers));
+    let [returned1, returned2] = caught(|| {
+        engine.run_both(
+            program.lend(),
+            [one.network.lend_mut(), two.network.lend_mut()],
+            [one.list.lend(), two.list.lend()],
+            [one.answers.lend_mut(), two.answers.lend_mut()],
+        )
+    })?;
+    program.unchanged()?;
+    let outcomes = [("first", one.outcome(returned1)?, apart[0]), ("second", two.outcome(returned2)?, apart[1])];
+    for (which, both, apart) in outcomes {
         if both != *apart {
             let names = [format!("the {which} of two runs in one call"), "the same run alone".into()];
             return Err(show::unlike(names, &both, apart));
         }
     }
     Ok(())
-}
-
-/// The events of a list that was read.
-fn split(list: &[u8]) -> Vec<&[u8]> {
-    let mut events = vec![];
-    let mut rest = list;
-    while rest.len() >= 3 {
-        let length = 3 + usize::from(u16::from_be_bytes([rest[1], rest[2]]));
-        let (event, after) = rest.split_at(length.min(rest.len()));
-        events.push(event);
-        rest = after;
-    }
-    events
 }
 
 /// What holds of every outcome, whatever the engine: the expected number and place, and which buffers stay.
@@ -215,7 +212,7 @@ fn examine(case: &Case, list: &[u8], outcome: &Outcome) -> Result<(), String> {
         }
     }
     let pairs = if number == 0 { 2 * split(list).len() } else { 0 };
-    if (pairs.min(case.space)..case.space).any(|at| outcome.answers[at] != unanswered(at)) {
+    if outcome.answers.iter().zip(unanswered(case.space)).skip(pairs).any(|(now, before)| *now != before) {
         return Err("answer space beyond the pairs, or of a refused call, was touched".into());
     }
     if number != 0 && outcome.network != case.network {
@@ -246,24 +243,6 @@ fn same_in_any_order(case: &Case, first: &Outcome, second: &Outcome) -> Result<(
         }
         None => Ok(()),
     }
-}
-
-/// What was compared.
-#[derive(Default)]
-pub struct Report {
-    pub cases: u64,
-    pub events: u64,
-    pub pairs_of_orders: u64,
-    /// How often two runs were done in one call.
-    pub in_one_call: u64,
-    /// How often each number was returned.
-    pub returned: BTreeMap<u32, u64>,
-    /// How often each number was answered.
-    pub answered: BTreeMap<i32, u64>,
-    /// By label, how often each number was returned.
-    pub labels: BTreeMap<&'static str, BTreeMap<u32, u64>>,
-    /// The first difference, with all that is needed to see it again.
-    pub difference: Option<String>,
 }
 
 /// Runs both engines on cases `0..count` of a seed, up to the first difference.
@@ -336,7 +315,7 @@ pub fn compare_one(engines: &[&dyn Engine], case: &Case, report: &mut Report) ->
         alike([engines[0], *engine], &first, &outcomes(*engine, case)?)?;
     }
     right(case, &first).map_err(|what| format!("{} (and all others): {what}", engines[0].name()))?;
-    count(case, &first, report);
+    report.count(case, &first);
     if matches!(case.call, Call::Run | Call::Orders) {
         report.in_one_call += engines.iter().filter(|engine| engine.both().is_some()).count() as u64;
     }
@@ -346,32 +325,56 @@ pub fn compare_one(engines: &[&dyn Engine], case: &Case, report: &mut Report) ->
 /// A case on which engines differ, with as few events and network cells as still make them differ.
 fn shrunk(engines: &[&dyn Engine], case: &Case) -> Case {
     let differs = |case: &Case| compare_one(engines, case, &mut Report::default()).is_err();
-    // What was expected holds for the whole case only.
-    let mut small = Case { expected: None, ..case.clone() };
-    if !matches!(case.call, Call::Event | Call::Run) || !differs(&small) {
-        return case.clone();
+    // What was expected holds for the whole case only; of two orders one run may do.
+    let start =
+        |call: Call, list: &[u8]| Case { call, list: list.to_vec(), reordered: vec![], expected: None, ..case.clone() };
+    let starts = match case.call {
+        Call::Check | Call::Fresh => vec![],
+        Call::Event | Call::Run => vec![start(case.call, &case.list)],
+        Call::Orders => vec![start(Call::Run, &case.list), start(Call::Run, &case.reordered)],
+    };
+    match starts.into_iter().find(differs) {
+        Some(small) => fewer_cells(fewer_events(small, &differs), &differs),
+        None => case.clone(),
     }
+}
+
+/// A case in which what can be as when fresh is so.
+fn fewer_cells(mut small: Case, differs: &dyn Fn(&Case) -> bool) -> Case {
     let fresh = cases::network::fresh();
-    if small.network.len() == fresh.len() {
-        for (block, fresh) in fresh.chunks(16).enumerate() {
-            let mut tried = small.clone();
-            tried.network[16 * block..16 * block + fresh.len()].copy_from_slice(fresh);
-            if tried.network != small.network && differs(&tried) {
-                small = tried;
-            }
+    if small.network.len() != fresh.len() {
+        return small;
+    }
+    for (block, fresh) in fresh.chunks(16).enumerate() {
+        let mut tried = small.clone();
+        tried.network[16 * block..16 * block + fresh.len()].copy_from_slice(fresh);
+        if tried.network != small.network && differs(&tried) {
+            small = tried;
         }
     }
-    if case.call == Call::Run {
-        let mut events: Vec<Vec<u8>> = split(&case.list).into_iter().map(<[u8]>::to_vec).collect();
-        for at in (0..events.len()).rev() {
-            let removed = events.remove(at);
-            let tried = Case { list: events.concat(), ..small.clone() };
+    small
+}
+
+/// A run without the events that it can do without; ever smaller pieces are left out, down to a thousandth of the list.
+fn fewer_events(mut small: Case, differs: &dyn Fn(&Case) -> bool) -> Case {
+    if small.call != Call::Run {
+        return small;
+    }
+    let mut events: Vec<Vec<u8>> = split(&small.list).into_iter().map(<[u8]>::to_vec).collect();
+    let mut piece = events.len();
+    while piece > events.len() / 1_000 {
+        let mut end = events.len();
+        while end > 0 {
+            let start = end.saturating_sub(piece);
+            let kept = [&events[..start], &events[end..]].concat();
+            let tried = Case { list: kept.concat(), ..small.clone() };
             if differs(&tried) {
                 small = tried;
-            } else {
-                events.insert(at, removed);
+                events = kept;
             }
+            end = start;
         }
+        piece /= 2;
     }
     small
 }
@@ -399,39 +402,21 @@ fn alike(engines: [&dyn Engine; 2], first: &[Outcome], second: &[Outcome]) -> Re
     }
 }
 
-/// Compares every mutant with the second engine; each with the number of cases after which it was caught, if it was.
-pub fn catch_mutants(seed: u64, count: u64) -> Vec<(Mutant, Option<u64>)> {
+/// Compares every mutant with an engine, first on the long run, then on random cases; each mutant with the number of
+/// cases after which it was caught, if it was. An error if the engine itself did not do a case.
+pub fn catch_mutants(engine: &dyn Engine, seed: u64, count: u64) -> Result<Vec<(Mutant, Option<u64>)>, String> {
     let mut mutants: Vec<(Mutant, Option<u64>)> = mutants::all().map(|mutant| (mutant, None)).collect();
-    for index in 0..count {
+    let long = std::iter::once_with(cases::systematic::long_run);
+    let random = (0..count).map(|index| cases::nth(seed, index));
+    for (number, case) in long.chain(random).enumerate() {
         if mutants.iter().all(|(_, caught)| caught.is_some()) {
             break;
         }
-        let case = cases::nth(seed, index);
-        let second = outcomes(&Second, &case);
+        let right = outcomes(engine, &case).map_err(|what| format!("after {number} cases of seed {seed}: {what}"))?;
         for (mutant, caught) in mutants.iter_mut().filter(|(_, caught)| caught.is_none()) {
-            let same = match (&second, outcomes(mutant, &case)) {
-                (Ok(second), Ok(now)) => alike([&Second, mutant], second, &now).is_ok(),
-                _ => false,
-            };
-            if !same {
-                *caught = Some(index + 1);
-            }
+            let same = outcomes(mutant, &case).is_ok_and(|now| alike([engine, mutant], &right, &now).is_ok());
+            *caught = (!same).then_some(number as u64);
         }
     }
-    mutants
-}
-
-fn count(case: &Case, outcomes: &[Outcome], report: &mut Report) {
-    report.pairs_of_orders += u64::from(outcomes.len() == 2);
-    for outcome in outcomes {
-        let number = outcome.returned.0;
-        *report.returned.entry(number).or_default() += 1;
-        *report.labels.entry(case.label).or_default().entry(number).or_default() += 1;
-        if number == 0 {
-            for pair in outcome.answers.chunks(2).take(split(&case.list).len()) {
-                report.events += 1;
-                *report.answered.entry(pair[0]).or_default() += 1;
-            }
-        }
-    }
+    Ok(mutants)
 }

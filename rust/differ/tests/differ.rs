@@ -1,7 +1,12 @@
 //! The comparison finds no difference where there is none, and finds every bug that was put in.
 
+use cases::table::split;
+use cases::{Call, Case};
 use differ::{catch_mutants, compare, compare_all, Both, Engine, Report, Returned, Second};
 use mutants::Mutant;
+use std::process::Command;
+
+const MUTANTS: usize = 213;
 
 fn alike(report: &Report) {
     if let Some(difference) = &report.difference {
@@ -27,30 +32,76 @@ fn proved_engine_against_second_engine() {
     assert!(report.in_one_call > 5_000, "only {} times two runs in one call", report.in_one_call);
 }
 
-/// Every labelled case brings the refusal its label begins with, and no other; every refusal and answer is met.
+/// Every label is met, each brings its own refusal and no other; every refusal and answer is met.
 #[test]
 fn labels_bring_their_refusal() {
-    let report = compare_all(&[&Second], 103, 12_000);
+    let report = compare_all(&[&Second], 103, 20_000);
     alike(&report);
-    for (label, numbers) in &report.labels {
-        let first = label.split(' ').next().unwrap_or("");
-        if let Ok(number) = first.parse::<u32>() {
-            assert_eq!(numbers.keys().collect::<Vec<_>>(), [&number], "{label}");
-        }
-    }
-    assert!(report.labels.len() > 110, "only {} labels", report.labels.len());
-    assert_eq!(report.returned.keys().copied().collect::<Vec<u32>>(), (0..=13).collect::<Vec<u32>>());
-    assert_eq!(report.answered.keys().copied().collect::<Vec<i32>>(), [0, 14, 15, 16, 17]);
+    assert_eq!(report.gaps(), [""; 0]);
 }
 
+/// (1), as a program that is always accepted.
+const ONE: [u8; 12] = [1, 0, 5, 0, 0, 0, 0, 1, 3, 0, 1, 0];
+
+/// How many of a case's program, network, list and answer space are bad.
+fn faults(case: &Case) -> usize {
+    let mut space = vec![0; 8_000];
+    let program = Second.check(&case.program);
+    let network = Second.run(&ONE, &mut case.network.clone(), &[], &mut []);
+    let (list, events) = match Second.run(&ONE, &mut cases::network::fresh(), &case.list, &mut space) {
+        (0, _) => (case.call == Call::Event && split(&case.list).len() != 1, split(&case.list).len()),
+        (_, place) => (true, place),
+    };
+    [program.0 != 0, network.0 != 0, list, case.space < 2 * events].into_iter().filter(|bad| *bad).count()
+}
+
+/// Labels hold what they say where the refusal alone doesn't show it.
 #[test]
-fn every_mutant_is_caught() {
-    std::panic::set_hook(Box::new(|_| {}));
-    let mutants = catch_mutants(104, 20_000);
-    assert!(mutants.len() >= 150);
-    let missed: Vec<String> =
-        mutants.iter().filter(|(_, caught)| caught.is_none()).map(|(mutant, _)| Engine::name(mutant)).collect();
-    assert!(missed.is_empty(), "missed: {missed:?}");
+fn labels_hold_what_they_say() {
+    for case in (0..12_000).map(|index| cases::nth(106, index)) {
+        match case.label {
+            "1-12 several at once" => assert!(faults(&case) > 1, "{case:?}"),
+            "6 main in the middle" => {
+                let fields = split(&case.program);
+                assert!(fields[1..fields.len() - 1].iter().any(|field| field[0] == 3), "{:02x?}", case.program);
+            }
+            _ => {}
+        }
+    }
+}
+
+/// Too few cases are refused unless that is meant.
+#[test]
+fn the_program_wants_enough_cases() {
+    for (options, what) in [
+        (&["--cases", "49999"][..], "need --few"),
+        (&["--cases", "many"], "needs a number"),
+        (&["--case", "60000"], "unknown option"),
+    ] {
+        let output = Command::new(env!("CARGO_BIN_EXE_differ")).args(options).output().expect("it runs");
+        assert_eq!(output.status.code(), Some(2), "{options:?}");
+        assert!(String::from_utf8_lossy(&output.stderr).contains(what), "{output:?}");
+    }
+}
+
+/// A mutant that nothing tells from the second engine is missed; an engine that panics catches none.
+#[test]
+fn mutants_can_be_missed() {
+    let few = catch_mutants(&Second, 104, 10).expect("the second engine does every case");
+    assert!(few.iter().any(|(_, caught)| caught.is_none()));
+    assert!(few.iter().any(|(_, caught)| caught.is_some()));
+    let panics = spoiled(|_, _, _| panic!("as it should"));
+    let what = catch_mutants(&panics, 104, 1_000).expect_err("it panics");
+    assert!(what.contains("spoiled: it panicked"), "{what}");
+    let report = compare_all(&[&panics, &Second], 104, 1_000);
+    assert!(report.difference.expect("it panics").contains("spoiled: it panicked"));
+}
+
+/// Each bug has a name of its own; README and the gate's log count them.
+#[test]
+fn mutants_are_counted() {
+    let names: std::collections::BTreeSet<&str> = mutants::all().map(Mutant::name).collect();
+    assert_eq!((names.len(), mutants::all().count()), (MUTANTS, MUTANTS));
 }
 
 /// The second engine with something done to its answers and network after each run, or with a call for two runs that ends
@@ -74,16 +125,16 @@ impl Engine for Spoiled {
     fn name(&self) -> String {
         "spoiled".into()
     }
-    fn check(&self, program: &[u8]) -> (u32, usize) {
+    fn check(&self, program: &[u8]) -> Returned {
         Second.check(program)
     }
-    fn fresh(&self, network: &mut [i32]) -> (u32, usize) {
+    fn fresh(&self, network: &mut [i32]) -> Returned {
         Second.fresh(network)
     }
-    fn event(&self, program: &[u8], network: &mut [i32], list: &[u8], answers: &mut [i32]) -> (u32, usize) {
+    fn event(&self, program: &[u8], network: &mut [i32], list: &[u8], answers: &mut [i32]) -> Returned {
         Second.event(program, network, list, answers)
     }
-    fn run(&self, program: &[u8], network: &mut [i32], list: &[u8], answers: &mut [i32]) -> (u32, usize) {
+    fn run(&self, program: &[u8], network: &mut [i32], list: &[u8], answers: &mut [i32]) -> Returned {
         let returned = Second.run(program, network, list, answers);
         if returned == (0, 0) && list.len() > 8 {
             (self.after)(list, network, answers);
@@ -175,18 +226,16 @@ fn differences_can_be_seen_again() {
     ] {
         assert!(difference.contains(word), "no '{word}' in: {difference}");
     }
-    if let Some((_, small)) = difference.split_once("shrunk: ") {
-        let list = small.split_once("list: ").and_then(|(_, rest)| rest.lines().next()).unwrap_or("");
-        assert!(list.contains("120002"), "the lost message: {small}");
-        assert!(list.len() < 60, "{small}");
-    }
+    let (_, small) = difference.split_once("shrunk: ").expect("shrunk");
+    let (_, rest) = small.split_once("list: ").expect("with its list");
+    let list = rest.lines().next().expect("and its events");
+    assert!(list.contains("120002"), "the lost message: {small}");
+    assert!(list.len() < 60, "{small}");
 }
 
 /// A fresh network with one cell changed is sound exactly by the rule of that cell.
 #[test]
 fn every_cell_by_its_rule() {
-    let mut program = vec![1, 0, 5, 0, 0, 0, 0, 7];
-    program.extend([3, 0, 1, 0]);
     for cell in 0..cases::network::CELLS {
         let (device, within) = (cell / 529, cell % 529);
         let own = |start: usize| (within - start) / 16 == device;
@@ -207,7 +256,7 @@ fn every_cell_by_its_rule() {
             let mut network = cases::network::fresh();
             network[cell] = number;
             let expected = if sound { (0, 0) } else { (11, cell) };
-            assert_eq!(second::run(&program, &mut network, &[], &mut []), expected, "cell {cell} = {number}");
+            assert_eq!(second::run(&ONE, &mut network, &[], &mut []), expected, "cell {cell} = {number}");
         }
     }
 }

@@ -110,7 +110,7 @@ fn refusal_1_and_4_length_of_a_call() {
 
 #[test]
 fn refusal_2_257th_node() {
-    // A chain of 128 senses fills the table: 256 nodes pass.
+    // A constant under 255 senses fills the table: 256 nodes pass.
     let chain = |nodes: usize| {
         let mut t = Table::new();
         let mut last = t.constant(0);
