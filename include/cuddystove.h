@@ -12,7 +12,7 @@
 // What the slices hold is free: a call has no condition on it, answers a bad table, network or list with a refusal, and always ends.
 // The library uses no heap and keeps nothing between calls, so threads may call it at the same time, each on slices of its own.
 #ifndef CUDDYSTOVE_H
-#define CUDDYSTOVE_H
+#define CUDDYSTOVE_H // this header was read
 
 #include <stddef.h>
 #include <stdint.h>
@@ -24,16 +24,16 @@ extern "C" {
 // What a call returns: 0 and 0 when it did its work, else a refusal from 1 to 13 and its place (below). A refused call changed no
 // buffer.
 struct cuddystove_verdict {
-    uint32_t number;
-    size_t place;
+    uint32_t number; // 0, or the refusal: enum cuddystove_refusal
+    size_t place;    // where it was found; 0 with number 0, and where a refusal has no place
 };
 
-// What the two runs of cuddystove_run_both returned.
+// What the two runs of cuddystove_run_both returned, each as in struct cuddystove_verdict.
 struct cuddystove_verdicts {
-    uint32_t number1;
-    size_t place1;
-    uint32_t number2;
-    size_t place2;
+    uint32_t number1; // of list1 on network1
+    size_t place1;    // its place
+    uint32_t number2; // of list2 on network2
+    size_t place2;    // its place
 };
 
 // Checks a program table: 0 and 0 if it is accepted, else a refusal from 1 to 10. Nothing is written.
@@ -67,24 +67,26 @@ struct cuddystove_verdicts cuddystove_run_both(const uint8_t *program, size_t pr
 
 // ---- Numbers
 
-#define CUDDYSTOVE_MARK INT32_MIN // in a cell: absent; in a link: ends it
-#define CUDDYSTOVE_FLOOR (-INT32_MAX)
-#define CUDDYSTOVE_INF INT32_MAX
+// A number is from floor to inf, both included. Results beyond are brought to the nearer of the two.
+#define CUDDYSTOVE_MARK INT32_MIN     // no number, -2,147,483,648: absent in a cell; in a link event it ends the link
+#define CUDDYSTOVE_FLOOR (-INT32_MAX) // floor, the least number: -2,147,483,647
+#define CUDDYSTOVE_INF INT32_MAX      // inf, the largest number: 2,147,483,647
 
 // ---- A network: 16 blocks of 529 cells, one for each device. Devices a, b are 1 to 16.
 
-#define CUDDYSTOVE_DEVICES 16
-#define CUDDYSTOVE_BLOCK 529
-#define CUDDYSTOVE_CELLS 8464
-#define CUDDYSTOVE_VARIABLES 16        // of a device, 0 to 15
-#define CUDDYSTOVE_SENSORS 16          // of a device, 0 to 15
-#define CUDDYSTOVE_ROW 16              // cells of a heard or pending row: 0, then slots 1 to 15
-#define CUDDYSTOVE_FIRST_SENSORS 16    // where in a block the sensors' cell stands,
-#define CUDDYSTOVE_FIRST_HEARD 17      // the first heard row
-#define CUDDYSTOVE_FIRST_PENDING 273   // and the first pending row
-#define CUDDYSTOVE_FARTHEST 1000000    // the largest distance
+#define CUDDYSTOVE_DEVICES 16        // of a network, numbered 1 to 16
+#define CUDDYSTOVE_BLOCK 529         // cells of a device's block
+#define CUDDYSTOVE_CELLS 8464        // cells of a network, 16 blocks: the only length that a network may have
+#define CUDDYSTOVE_VARIABLES 16      // of a device, 0 to 15
+#define CUDDYSTOVE_SENSORS 16        // of a device, 0 to 15
+#define CUDDYSTOVE_ROW 16            // cells of a heard or pending row: 0, then slots 1 to 15
+#define CUDDYSTOVE_FIRST_SENSORS 16  // where in a block the sensors' cell stands,
+#define CUDDYSTOVE_FIRST_HEARD 17    // the first heard row, that for device 1,
+#define CUDDYSTOVE_FIRST_PENDING 273 // and the first pending row, that for device 1
+#define CUDDYSTOVE_FARTHEST 1000000  // the largest distance
 
-// Where a block begins, and its cells.
+// Where the block of a begins; its cells are below. Each of these macros gives the number of a cell, for instance
+// network[CUDDYSTOVE_AT_VARIABLE(2, 0)].
 #define CUDDYSTOVE_AT_BLOCK(a) (((size_t)(a) - 1) * CUDDYSTOVE_BLOCK)
 // Variable v of a: the mark or a number.
 #define CUDDYSTOVE_AT_VARIABLE(a, v) (CUDDYSTOVE_AT_BLOCK(a) + (size_t)(v))
@@ -103,6 +105,7 @@ struct cuddystove_verdicts cuddystove_run_both(const uint8_t *program, size_t pr
 
 // ---- Refusals. Returned: 1 to 13. In answers: 14 to 17.
 
+// The number of a verdict, and the first number of an answer.
 enum cuddystove_refusal {
     CUDDYSTOVE_DONE = 0,             // not refused
     CUDDYSTOVE_BAD_FIELD = 1,        // A field of the program is cut short, of unknown tag, of wrong length or without a kind byte.
@@ -131,53 +134,61 @@ enum cuddystove_refusal {
 
 // ---- A program table: fields of a tag byte, two bytes of length (high byte first) and a body.
 
-#define CUDDYSTOVE_NODES 256
-#define CUDDYSTOVE_DEFINITIONS 32
-#define CUDDYSTOVE_PARAMETERS 4
-#define CUDDYSTOVE_LARGEST_COST 1000000
+#define CUDDYSTOVE_NODES 256            // the most nodes of a table; they are numbered from 0 by appearance
+#define CUDDYSTOVE_DEFINITIONS 32       // the most definitions of a table; they are numbered from 0 too
+#define CUDDYSTOVE_PARAMETERS 4         // the most parameters of a definition, numbered from 0
+#define CUDDYSTOVE_LARGEST_COST 1000000 // the most that main may cost: a node costs 1 and its children, a call its definition's body
+                                        // besides, a fold by definition 15 times that body
 
+// The first byte of a field of a program table or an event list, and what its body holds: one byte each, but for the distance.
 enum cuddystove_tag {
-    CUDDYSTOVE_TAG_NODE = 1,       // kind, then the bytes below; nodes are numbered from 0
-    CUDDYSTOVE_TAG_DEFINITION = 2, // parameter count, body node; definitions are numbered from 0
-    CUDDYSTOVE_TAG_MAIN = 3,       // node; the last field
-    // In event lists:
-    CUDDYSTOVE_TAG_FIRE = 0x10,    // a
-    CUDDYSTOVE_TAG_DELIVER = 0x11, // a, b
-    CUDDYSTOVE_TAG_LOSE = 0x12,    // a, b
-    CUDDYSTOVE_TAG_LINK = 0x13,    // a, b, distance in four bytes
-    CUDDYSTOVE_TAG_SIGNAL = 0x14   // a, sensor, 0 or 1
+    CUDDYSTOVE_TAG_NODE = 1,       // program: kind, then what enum cuddystove_kind says; names only what was given before it
+    CUDDYSTOVE_TAG_DEFINITION = 2, // program: parameter count 0 to 4, body node
+    CUDDYSTOVE_TAG_MAIN = 3,       // program: the main node; the last field
+    CUDDYSTOVE_TAG_FIRE = 0x10,    // list: a. Device a does a round.
+    CUDDYSTOVE_TAG_DELIVER = 0x11, // list: a, b. The message pending from a to b arrives.
+    CUDDYSTOVE_TAG_LOSE = 0x12,    // list: a, b. The message pending from a to b goes.
+    CUDDYSTOVE_TAG_LINK = 0x13,    // list: a, b, distance in four bytes, high byte first; the mark ends the link.
+    CUDDYSTOVE_TAG_SIGNAL = 0x14   // list: a, sensor 0 to 15, 1 for lit or 0.
 };
 
+// The first byte of a node, the bytes after it, and what the node gives. Operands are numbers of nodes. A field, a map from some
+// devices to numbers, is what nbr and nbr-range give, an operator with a field on a side, and an if with fields for branches. All
+// else is a number.
 enum cuddystove_kind {
-    CUDDYSTOVE_CONSTANT = 0,  // four bytes, high byte first, not the mark
-    CUDDYSTOVE_PARAMETER = 1, // its number, 0 to 3
-    CUDDYSTOVE_VARIABLE = 2,  // its number, 0 to 15
-    CUDDYSTOVE_OPERATOR = 3,  // operator, left, right
-    CUDDYSTOVE_SENSE = 4,     // child
-    CUDDYSTOVE_REP = 5,       // variable, initial, update
-    CUDDYSTOVE_IF = 6,        // condition, then, else: one branch is evaluated
-    CUDDYSTOVE_MUX = 7,       // condition, then, else: both are
-    CUDDYSTOVE_NBR = 8,       // slot 1 to 15, child
-    CUDDYSTOVE_NBR_RANGE = 9, // slot 1 to 15
-    CUDDYSTOVE_FOLD = 10,     // operator, initial, field
-    CUDDYSTOVE_FOLD_BY = 11,  // definition, initial, field
-    CUDDYSTOVE_CALL = 12      // definition, arguments
+    CUDDYSTOVE_CONSTANT = 0,  // four bytes, high byte first, not the mark: that number
+    CUDDYSTOVE_PARAMETER = 1, // number 0 to 3: that argument of the call
+    CUDDYSTOVE_VARIABLE = 2,  // number 0 to 15: what is stored; only under the update of its rep
+    CUDDYSTOVE_OPERATOR = 3,  // operator, left, right: on two fields at the devices of both, on field and number at each device
+    CUDDYSTOVE_SENSE = 4,     // child: 1 if the sensor of that number is lit, else 0, also outside 0 to 15
+    CUDDYSTOVE_REP = 5,       // variable, initial, update: evaluates initial every round; stores and gives it if absent, else update
+    CUDDYSTOVE_IF = 6,        // condition, then, else: 1 takes then, all else takes else; the other branch's variables become absent
+    CUDDYSTOVE_MUX = 7,       // condition, then, else: the same choice, with then, else and condition evaluated, in that order
+    CUDDYSTOVE_NBR = 8,       // slot 1 to 15, child: sends the child's number in the slot; the field of what was heard in it
+    CUDDYSTOVE_NBR_RANGE = 9, // slot 1 to 15: sends 0; the field of the distances to devices heard with 0 in it that have a link
+    CUDDYSTOVE_FOLD = 10,     // operator, initial, field: initial op first, op second and so on, lowest device first
+    CUDDYSTOVE_FOLD_BY = 11,  // definition of two parameters, initial, field: the same by f(so far, next)
+    CUDDYSTOVE_CALL = 12      // definition, as many arguments as it has parameters: its body
 };
 
+// Results are exact, then brought into floor..inf, but for what is said of inf. A comparison gives 1 or 0; to it inf is the largest
+// number, and equal to itself.
 enum cuddystove_operator {
-    CUDDYSTOVE_PLUS = 0,
-    CUDDYSTOVE_MINUS = 1,
-    CUDDYSTOVE_TIMES = 2,
-    CUDDYSTOVE_DIVIDE = 3,
-    CUDDYSTOVE_LESS = 4,
-    CUDDYSTOVE_GREATER = 5,
-    CUDDYSTOVE_AT_LEAST = 6,
-    CUDDYSTOVE_EQUAL = 7,
-    CUDDYSTOVE_UNEQUAL = 8
+    CUDDYSTOVE_PLUS = 0,     // left + right; with an inf, on either side, inf
+    CUDDYSTOVE_MINUS = 1,    // left - right; inf - n is inf, also inf - inf; n - inf is floor for other n
+    CUDDYSTOVE_TIMES = 2,    // left x right; inf is a number like others: 0 x inf is 0, -1 x inf is floor
+    CUDDYSTOVE_DIVIDE = 3,   // left / right without the fraction: -7 / 2 is -3; inf / n is inf for n > 0, also inf / inf, and floor
+                             // for n < 0; n / inf is 0 for other n; a divisor 0 faults always (17)
+    CUDDYSTOVE_LESS = 4,     // 1 if left < right, else 0
+    CUDDYSTOVE_GREATER = 5,  // 1 if left > right, else 0
+    CUDDYSTOVE_AT_LEAST = 6, // 1 if left >= right, else 0
+    CUDDYSTOVE_EQUAL = 7,    // 1 if left == right, else 0
+    CUDDYSTOVE_UNEQUAL = 8   // 1 if left != right, else 0
 };
 
 // ---- Events and numbers as bytes, for a list: const uint8_t list[] = {CUDDYSTOVE_LINK(1, 2, 40), CUDDYSTOVE_FIRE(1)};
 
+// A number, or the mark, as four bytes, high byte first: the bytes of a constant and of a distance.
 #define CUDDYSTOVE_BYTES(n) \
     (uint8_t)((uint32_t)(n) >> 24), (uint8_t)((uint32_t)(n) >> 16), (uint8_t)((uint32_t)(n) >> 8), (uint8_t)(uint32_t)(n)
 // Device a does a round: its variables are stored, and each b that a has a link to has a message of a's pending.

@@ -1,13 +1,14 @@
-// Every call on accepted and refused inputs, each refusal from 1 to 17. Each slice lies against a page that cannot be touched,
-// once at its end and once at its start, and what a call only reads cannot be written: a stray access ends this program. It uses no
-// heap and no stdio, so that valgrind counts the library's own allocations. Prints the cases that failed and 'N passed, M failed'.
+// Every call on accepted and refused inputs, each refusal from 1 to 17, and rounds with every kind of node. Each slice lies against
+// a page that cannot be touched, once at its end and once at its start, and what a call only reads cannot be written: a stray access
+// ends this program. It uses no heap and no stdio, so that valgrind counts the library's own allocations. Prints the cases that
+// failed and 'N passed, M failed'.
 #define _GNU_SOURCE
 #include "cuddystove.h"
 #include <string.h>
 #include <sys/mman.h>
 #include <unistd.h>
 
-enum { PAGE = 4096, ROOM = 10 * PAGE, UNTOUCHED = -77 };
+enum { PAGE = 4096, ROOM = 10 * PAGE, SPACE_ROOM = 80, UNTOUCHED = -77 };
 static int passed, failed;
 
 // ---- Printing
@@ -54,7 +55,7 @@ static void *lend(enum slice s, const void *from, size_t bytes, int end) {
 enum call { CHECK, FRESH, EVENT, RUN, BOTH };
 static const uint8_t *program;
 static size_t program_length;
-static int32_t network[CUDDYSTOVE_CELLS + 1], after[CUDDYSTOVE_CELLS + 1], space[64], answered[64];
+static int32_t network[CUDDYSTOVE_CELLS + 1], after[CUDDYSTOVE_CELLS + 1], space[SPACE_ROOM], answered[SPACE_ROOM];
 static size_t network_length, space_length;
 
 #define PROGRAM_IS(bytes) (program = (bytes), program_length = sizeof(bytes))
@@ -104,7 +105,7 @@ static void fresh(size_t space_now) {
         network[CUDDYSTOVE_AT_SENSORS(a)] = 0;
         for (int b = 1; b <= CUDDYSTOVE_DEVICES; b++) network[CUDDYSTOVE_AT_IS_PENDING(a, b)] = 0;
     }
-    for (int i = 0; i < 64; i++) space[i] = UNTOUCHED;
+    for (int i = 0; i < SPACE_ROOM; i++) space[i] = UNTOUCHED;
     network_length = CUDDYSTOVE_CELLS;
     space_length = space_now;
     same();
@@ -139,21 +140,101 @@ static void one_event(const char *what, const uint8_t *list, size_t length, int3
     } while (0)
 
 #define CONST(n) 1, 0, 5, CUDDYSTOVE_CONSTANT, CUDDYSTOVE_BYTES(n)
+#define PARAMETER(p) 1, 0, 2, CUDDYSTOVE_PARAMETER, p
+#define VARIABLE(v) 1, 0, 2, CUDDYSTOVE_VARIABLE, v
+#define OPERATOR(o, left, right) 1, 0, 4, CUDDYSTOVE_OPERATOR, CUDDYSTOVE_##o, left, right
+#define SENSE(child) 1, 0, 2, CUDDYSTOVE_SENSE, child
+#define REP(v, initial, update) 1, 0, 4, CUDDYSTOVE_REP, v, initial, update
+#define IF(condition, one, other) 1, 0, 4, CUDDYSTOVE_IF, condition, one, other
+#define MUX(condition, one, other) 1, 0, 4, CUDDYSTOVE_MUX, condition, one, other
+#define NBR(slot, child) 1, 0, 3, CUDDYSTOVE_NBR, slot, child
+#define RANGE(slot) 1, 0, 2, CUDDYSTOVE_NBR_RANGE, slot
+#define FOLD(o, initial, field) 1, 0, 4, CUDDYSTOVE_FOLD, CUDDYSTOVE_##o, initial, field
+#define FOLD_BY(d, initial, field) 1, 0, 4, CUDDYSTOVE_FOLD_BY, d, initial, field
+#define CALL1(d, a) 1, 0, 3, CUDDYSTOVE_CALL, d, a
+#define CALL2(d, a, b) 1, 0, 4, CUDDYSTOVE_CALL, d, a, b
+#define CALL4(d, a, b, c, e) 1, 0, 6, CUDDYSTOVE_CALL, d, a, b, c, e
+#define DEFINITION(parameters, body) 2, 0, 2, parameters, body
 #define MAIN(n) 3, 0, 1, n
+
 // 01's program (i).
-static const uint8_t counter[] = {
-    CONST(0),                                              // 0
-    1, 0, 2, CUDDYSTOVE_VARIABLE, 0,                       // 1
-    CONST(1),                                              // 2
-    1, 0, 4, CUDDYSTOVE_OPERATOR, CUDDYSTOVE_PLUS, 1, 2,   // 3
-    1, 0, 4, CUDDYSTOVE_REP, 0, 0, 3,                      // 4
-    MAIN(4),
-};
+static const uint8_t counter[] = {CONST(0), VARIABLE(0), CONST(1), OPERATOR(PLUS, 1, 2), REP(0, 0, 3), MAIN(4)};
 // The sum of what is heard in slot 3, from 100 on; sends 5 in it.
-static const uint8_t gossip[] = {
-    CONST(100), CONST(5), 1, 0, 3, CUDDYSTOVE_NBR, 3, 1, 1, 0, 4, CUDDYSTOVE_FOLD, CUDDYSTOVE_PLUS, 0, 2, MAIN(3),
+static const uint8_t gossip[] = {CONST(100), CONST(5), NBR(3, 1), FOLD(PLUS, 0, 2), MAIN(3)};
+static const uint8_t divides[] = {CONST(1), CONST(0), OPERATOR(DIVIDE, 0, 1), MAIN(2)};
+// 000's distance-to, as in examples/host.c: (rep d inf (mux (sense 1) 0 (fold-hood* min inf (+ (nbr d) (nbr-range)))))
+static const uint8_t distance[] = {
+    PARAMETER(0), PARAMETER(1), OPERATOR(LESS, 0, 1), PARAMETER(0), PARAMETER(1), IF(2, 3, 4), //  0 to 5
+    DEFINITION(2, 5),                                                                          // min
+    CONST(CUDDYSTOVE_INF), CONST(1), SENSE(7), CONST(0), CONST(CUDDYSTOVE_INF),                //  6 to 10
+    VARIABLE(0), NBR(1, 11), RANGE(2), OPERATOR(PLUS, 12, 13), FOLD_BY(0, 10, 14),             // 11 to 15
+    MUX(8, 9, 15), REP(0, 6, 16), MAIN(17),                                                    // 16 to 17
 };
-static const uint8_t divides[] = {CONST(1), CONST(0), 1, 0, 4, CUDDYSTOVE_OPERATOR, CUDDYSTOVE_DIVIDE, 0, 1, MAIN(2)};
+// (def down (n) (rep y n (- y 1))) (def twice (n) (down (+ n n)))
+// (if (sense 1) (+ (rep x 0 (+ x 1)) (fold-hood* + 0 (nbr 7))) (twice 5)), with y as variable 15 and the nbr by slot 15
+static const uint8_t branches[] = {
+    PARAMETER(0), VARIABLE(15), CONST(1), OPERATOR(MINUS, 1, 2), REP(15, 0, 3),  //  0 to 4
+    DEFINITION(1, 4),                                                            // down
+    PARAMETER(0), PARAMETER(0), OPERATOR(PLUS, 5, 6), CALL1(0, 7),               //  5 to 8
+    DEFINITION(1, 8),                                                            // twice
+    CONST(1), SENSE(9),                                                          //  9, 10
+    CONST(0), VARIABLE(0), CONST(1), OPERATOR(PLUS, 12, 13), REP(0, 11, 14),     // 11 to 15
+    CONST(0), CONST(7), NBR(15, 17), FOLD(PLUS, 16, 18), OPERATOR(PLUS, 15, 19), // 16 to 20
+    CONST(5), CALL1(1, 21), IF(10, 20, 22), MAIN(23),                            // 21 to 23
+};
+// (+ (fold-hood* - 1000 (/ 120 (nbr-range)))
+//    (* 10 (+ (fold-hood* > 5 (- (nbr (sense 2)) 1))
+//             (fold-hood* * 1 (if (sense 3) (+ (nbr 6) (nbr-range)) (/ (nbr-range) 8))))))
+static const uint8_t fields[] = {
+    CONST(1000), CONST(120), RANGE(1), OPERATOR(DIVIDE, 1, 2), FOLD(MINUS, 0, 3),                              //  0 to 4
+    CONST(10),                                                                                                 //  5
+    CONST(5), CONST(2), SENSE(7), NBR(2, 8), CONST(1), OPERATOR(MINUS, 9, 10), FOLD(GREATER, 6, 11),           //  6 to 12
+    CONST(1), CONST(3), SENSE(14), CONST(6), NBR(3, 16), RANGE(4), OPERATOR(PLUS, 17, 18),                     // 13 to 19
+    RANGE(5), CONST(8), OPERATOR(DIVIDE, 20, 21), IF(15, 19, 22), FOLD(TIMES, 13, 23), OPERATOR(PLUS, 12, 24), // 20 to 25
+    OPERATOR(TIMES, 5, 25), OPERATOR(PLUS, 4, 26), MAIN(27),                                                   // 26, 27
+};
+// (def four (a b c d) (- (* a b) (/ c d))) (def weigh (s n) (four s 2 n 3))
+// (mux (== (fold-hood* weigh 1 (nbr 9)) -12) (four 7 6 5 2) (rep x 1 (* x 2)))
+static const uint8_t weighs[] = {
+    PARAMETER(0), PARAMETER(1), PARAMETER(2), PARAMETER(3),                                              //  0 to 3
+    OPERATOR(TIMES, 0, 1), OPERATOR(DIVIDE, 2, 3), OPERATOR(MINUS, 4, 5), DEFINITION(4, 6),              //  4 to 6: four
+    PARAMETER(0), CONST(2), PARAMETER(1), CONST(3), CALL4(0, 7, 8, 9, 10), DEFINITION(2, 11),            //  7 to 11: weigh
+    CONST(1), CONST(9), NBR(1, 13), FOLD_BY(1, 12, 14), CONST(-12), OPERATOR(EQUAL, 15, 16),             // 12 to 17
+    CONST(7), CONST(6), CONST(5), CONST(2), CALL4(0, 18, 19, 20, 21),                                    // 18 to 22
+    CONST(1), VARIABLE(0), CONST(2), OPERATOR(TIMES, 24, 25), REP(0, 23, 26), MUX(17, 22, 27), MAIN(28), // 23 to 28
+};
+// Three divisions by 0 (nodes 2, 5 and 8), and what divides first.
+#define THREE CONST(1), CONST(0), OPERATOR(DIVIDE, 0, 1), CONST(2), CONST(0), OPERATOR(DIVIDE, 3, 4), CONST(3), CONST(0), \
+              OPERATOR(DIVIDE, 6, 7)
+static const uint8_t mux_first[] = {THREE, MUX(2, 5, 8), MAIN(9)};
+static const uint8_t if_first[] = {THREE, IF(2, 5, 8), MAIN(9)};
+static const uint8_t left_first[] = {THREE, OPERATOR(PLUS, 5, 2), OPERATOR(PLUS, 9, 8), MAIN(10)};
+static const uint8_t fold_first[] = {THREE, NBR(1, 2), FOLD(PLUS, 5, 9), OPERATOR(PLUS, 10, 8), MAIN(11)};
+static const uint8_t rep_first[] = {THREE, REP(0, 5, 2), OPERATOR(PLUS, 9, 8), MAIN(10)};
+#define SUM PARAMETER(0), PARAMETER(1), OPERATOR(PLUS, 9, 10), DEFINITION(2, 11)
+static const uint8_t fold_by_first[] = {THREE, SUM, NBR(1, 2), FOLD_BY(0, 5, 12), OPERATOR(PLUS, 13, 8), MAIN(14)};
+static const uint8_t argument_first[] = {THREE, SUM, CALL2(0, 5, 2), OPERATOR(PLUS, 12, 8), MAIN(13)};
+// (def over (a b) (/ a b)), its division node 2; (over 8 (sense 3)), and (fold-hood* over 100 (nbr (sense 3)))
+#define OVER PARAMETER(0), PARAMETER(1), OPERATOR(DIVIDE, 0, 1), DEFINITION(2, 2)
+static const uint8_t calls_over[] = {OVER, CONST(8), CONST(3), SENSE(4), CALL2(0, 3, 5), MAIN(6)};
+static const uint8_t folds_over[] = {OVER, CONST(100), CONST(3), SENSE(4), NBR(1, 5), FOLD_BY(0, 3, 6), MAIN(7)};
+// (fold-hood* * 3 (/ (nbr 1) 0)), and without the division
+static const uint8_t empty_over[] = {CONST(3), CONST(1), NBR(1, 1), CONST(0), OPERATOR(DIVIDE, 2, 3), FOLD(TIMES, 0, 4), MAIN(5)};
+static const uint8_t product[] = {CONST(3), CONST(1), NBR(1, 1), FOLD(TIMES, 0, 2), MAIN(3)};
+// (mux 2 5 6), (if 2 5 6)
+static const uint8_t mux_2[] = {CONST(2), CONST(5), CONST(6), MUX(0, 1, 2), MAIN(3)};
+static const uint8_t if_2[] = {CONST(2), CONST(5), CONST(6), IF(0, 1, 2), MAIN(3)};
+// (rep x 1 (+ x (rep y x (+ x y))))
+static const uint8_t nested[] = {
+    CONST(1), VARIABLE(0), VARIABLE(0), VARIABLE(0), VARIABLE(1), OPERATOR(PLUS, 3, 4), REP(1, 2, 5), OPERATOR(PLUS, 1, 6),
+    REP(0, 0, 7), MAIN(8),
+};
+// (if (sense 0) 5 (/ 1 0))
+static const uint8_t spared[] = {CONST(0), SENSE(0), CONST(5), CONST(1), CONST(0), OPERATOR(DIVIDE, 3, 4), IF(1, 2, 5), MAIN(6)};
+// (rep x (/ 6 (sense 1)) (+ x 1))
+static const uint8_t initial_again[] = {
+    CONST(6), CONST(1), SENSE(1), OPERATOR(DIVIDE, 0, 2), VARIABLE(0), CONST(1), OPERATOR(PLUS, 4, 5), REP(0, 3, 6), MAIN(7),
+};
 
 static void programs(void) {
     static uint8_t many[257 * 5 + 20];
@@ -221,6 +302,7 @@ static void networks(void) {
     static const struct { size_t cell; int32_t number; } unsound[] = {
         {CUDDYSTOVE_AT_SENSORS(2), 65536},
         {CUDDYSTOVE_AT_DISTANCE(3, 4), CUDDYSTOVE_FARTHEST + 1},
+        {CUDDYSTOVE_AT_DISTANCE(3, 5), -1},
         {CUDDYSTOVE_AT_DISTANCE(5, 5), 0},
         {CUDDYSTOVE_AT_IS_PENDING(6, 7), 2},
         {CUDDYSTOVE_AT_PENDING(16, 15, 15), 0},
@@ -233,6 +315,15 @@ static void networks(void) {
         refused_call("11", RUN, EMPTY, 11, unsound[i].cell);
         refused_call("11", BOTH, EMPTY, 11, unsound[i].cell);
     }
+    // The lowest of two is named; the program is tested before the network, and the network before the list.
+    fresh(2);
+    network[CUDDYSTOVE_AT_SENSORS(2)] = -1;
+    network[CUDDYSTOVE_AT_SENSORS(3)] = -1;
+    refused_call("11 before 12", EVENT, LIST(9), 11, CUDDYSTOVE_AT_SENSORS(2));
+    refused_call("11 before 12", RUN, LIST(9), 11, CUDDYSTOVE_AT_SENSORS(2));
+    program_length--;
+    refused_call("1 before 11", EVENT, LIST(CUDDYSTOVE_FIRE(1)), 1, 5);
+    refused_call("1 before 11", RUN, EMPTY, 1, 5);
 }
 
 static void lists(void) {
@@ -290,14 +381,29 @@ static void events(void) {
     after[CUDDYSTOVE_AT_IS_PENDING(2, 9)] = 0;
     after[CUDDYSTOVE_AT_PENDING(2, 9, 3)] = CUDDYSTOVE_MARK;
     one_event("lose", LIST(CUDDYSTOVE_LOSE(2, 9)), 0, 0);
+    after[CUDDYSTOVE_AT_IS_PENDING(2, 9)] = 1;
+    after[CUDDYSTOVE_AT_PENDING(2, 9, 3)] = 5;
+    one_event("fire", LIST(CUDDYSTOVE_FIRE(2)), 0, 100);
+    after[CUDDYSTOVE_AT_DISTANCE(2, 9)] = 0;
+    one_event("another distance, a message pending", LIST(CUDDYSTOVE_LINK(2, 9, 0)), 0, 0);
     after[CUDDYSTOVE_AT_DISTANCE(2, 9)] = CUDDYSTOVE_MARK;
-    one_event("the end of a link", LIST(CUDDYSTOVE_LINK(2, 9, CUDDYSTOVE_MARK)), 0, 0);
-    after[CUDDYSTOVE_AT_SENSORS(2)] = 0;
+    one_event("the end of a link, a message pending", LIST(CUDDYSTOVE_LINK(2, 9, CUDDYSTOVE_MARK)), 0, 0);
+    after[CUDDYSTOVE_AT_IS_PENDING(2, 9)] = 0;
+    after[CUDDYSTOVE_AT_PENDING(2, 9, 3)] = CUDDYSTOVE_MARK;
+    one_event("fire without a link", LIST(CUDDYSTOVE_FIRE(2)), 0, 100);
+    after[CUDDYSTOVE_AT_SENSORS(2)] = 1 << 15 | 1;
+    one_event("signal another", LIST(CUDDYSTOVE_SIGNAL(2, 0, 1)), 0, 0);
+    after[CUDDYSTOVE_AT_SENSORS(2)] = 1;
     one_event("signal off", LIST(CUDDYSTOVE_SIGNAL(2, 15, 0)), 0, 0);
+    after[CUDDYSTOVE_AT_SENSORS(2)] = 0;
+    one_event("signal off", LIST(CUDDYSTOVE_SIGNAL(2, 0, 0)), 0, 0);
     one_event("14", LIST(CUDDYSTOVE_FIRE(17)), CUDDYSTOVE_BAD_ITEM, 0);
     one_event("14", LIST(CUDDYSTOVE_LINK(1, 2, CUDDYSTOVE_FARTHEST + 1)), CUDDYSTOVE_BAD_ITEM, 0);
     one_event("14", LIST(CUDDYSTOVE_SIGNAL(1, 16, 1)), CUDDYSTOVE_BAD_ITEM, 0);
     one_event("14", LIST(CUDDYSTOVE_DELIVER(0, 1)), CUDDYSTOVE_BAD_ITEM, 0);
+    one_event("14", LIST(CUDDYSTOVE_SIGNAL(1, 1, 2)), CUDDYSTOVE_BAD_ITEM, 0);
+    one_event("14 before 15", LIST(CUDDYSTOVE_LOSE(17, 17)), CUDDYSTOVE_BAD_ITEM, 0);
+    one_event("14 before 15", LIST(CUDDYSTOVE_LINK(4, 4, -1)), CUDDYSTOVE_BAD_ITEM, 0);
     one_event("15", LIST(CUDDYSTOVE_LOSE(4, 4)), CUDDYSTOVE_ITSELF, 0);
     PROGRAM_IS(divides);
     one_event("17", LIST(CUDDYSTOVE_FIRE(1)), CUDDYSTOVE_DIVIDED_BY_0, 2);
@@ -306,6 +412,353 @@ static void events(void) {
     one_event("rep, first", LIST(CUDDYSTOVE_FIRE(16)), 0, 0);
     after[CUDDYSTOVE_AT_VARIABLE(16, 0)] = 1;
     one_event("rep, second", LIST(CUDDYSTOVE_FIRE(16)), 0, 1);
+}
+
+// ---- Rounds of devices that have heard others, worked out from 01
+
+// A fire of a: what was pending goes, and each b with a link from a gets a message, as yet without slots.
+static void message(int a) {
+    for (int b = 1; b <= CUDDYSTOVE_DEVICES; b++) {
+        after[CUDDYSTOVE_AT_IS_PENDING(a, b)] = after[CUDDYSTOVE_AT_DISTANCE(a, b)] != CUDDYSTOVE_MARK;
+        for (int i = 1; i < CUDDYSTOVE_ROW; i++) after[CUDDYSTOVE_AT_PENDING(a, b, i)] = CUDDYSTOVE_MARK;
+    }
+}
+// This slot is in it.
+static void sends(int a, int slot, int32_t number) {
+    for (int b = 1; b <= CUDDYSTOVE_DEVICES; b++) {
+        if (after[CUDDYSTOVE_AT_IS_PENDING(a, b)]) after[CUDDYSTOVE_AT_PENDING(a, b, slot)] = number;
+    }
+}
+// The message pending from a to b arrives: what b heard from a becomes just that, absent slots too.
+static void arrives(const char *what, int a, int b) {
+    for (int i = 1; i < CUDDYSTOVE_ROW; i++) {
+        after[CUDDYSTOVE_AT_HEARD(b, a, i)] = after[CUDDYSTOVE_AT_PENDING(a, b, i)];
+        after[CUDDYSTOVE_AT_PENDING(a, b, i)] = CUDDYSTOVE_MARK;
+    }
+    after[CUDDYSTOVE_AT_IS_PENDING(a, b)] = 0;
+    one_event(what, LIST(CUDDYSTOVE_DELIVER(a, b)), 0, 0);
+}
+// What was before: written into the network, then same().
+static void linked(int a, int b, int32_t distance) { network[CUDDYSTOVE_AT_DISTANCE(a, b)] = distance; }
+static void heard(int a, int b, int slot, int32_t number) { network[CUDDYSTOVE_AT_HEARD(a, b, slot)] = number; }
+static void fires(const char *what, int a, int32_t value) { one_event(what, LIST(CUDDYSTOVE_FIRE(a)), 0, value); }
+static void faults(const char *what, int a, int32_t node) {
+    same();
+    one_event(what, LIST(CUDDYSTOVE_FIRE(a)), CUDDYSTOVE_DIVIDED_BY_0, node);
+}
+// Just these sensors are lit from now on.
+static void senses(int a, int32_t lit) {
+    network[CUDDYSTOVE_AT_SENSORS(a)] = lit;
+    same();
+}
+
+static void distances(void) {
+    PROGRAM_IS(distance);
+    // In its first round a rep skips its update, so nothing is sent, but the message still goes.
+    fresh(3);
+    linked(2, 1, 10);
+    heard(1, 2, 2, 0);
+    same();
+    message(2);
+    after[CUDDYSTOVE_AT_VARIABLE(2, 0)] = CUDDYSTOVE_INF;
+    fires("distance-to, first", 2, CUDDYSTOVE_INF);
+    arrives("distance-to, an empty message", 2, 1);
+    // 01's run (iii): 10 + 10 and inf + 10, so 20; the variable is sent as it was.
+    fresh(3);
+    network[CUDDYSTOVE_AT_VARIABLE(2, 0)] = CUDDYSTOVE_INF;
+    linked(2, 1, 10), linked(2, 3, 10);
+    heard(2, 1, 1, 10), heard(2, 3, 1, CUDDYSTOVE_INF), heard(2, 1, 2, 0), heard(2, 3, 2, 0);
+    same();
+    message(2), sends(2, 1, CUDDYSTOVE_INF), sends(2, 2, 0);
+    after[CUDDYSTOVE_AT_VARIABLE(2, 0)] = 20;
+    fires("01's run (iii)", 2, 20);
+    // Its next round sends the 20.
+    message(2), sends(2, 1, 20), sends(2, 2, 0);
+    fires("a round after (iii)", 2, 20);
+    // Lit: 0, and the other side of the mux still sends.
+    senses(2, 1 << 1);
+    message(2), sends(2, 1, 20), sends(2, 2, 0);
+    after[CUDDYSTOVE_AT_VARIABLE(2, 0)] = 0;
+    fires("distance-to, lit", 2, 0);
+    // The link to 1 has ended, so 1 is out of nbr-range, and no message goes to it: inf + 10.
+    senses(2, 0);
+    linked(2, 1, CUDDYSTOVE_MARK);
+    same();
+    message(2), sends(2, 1, 0), sends(2, 2, 0);
+    after[CUDDYSTOVE_AT_VARIABLE(2, 0)] = CUDDYSTOVE_INF;
+    fires("distance-to, a link that has ended", 2, CUDDYSTOVE_INF);
+    // 3 is heard with 7 in slot 1, but not with 0 in slot 2; 1 has a link again.
+    linked(2, 1, 0);
+    heard(2, 3, 1, 7), heard(2, 3, 2, 1);
+    same();
+    message(2), sends(2, 1, CUDDYSTOVE_INF), sends(2, 2, 0);
+    after[CUDDYSTOVE_AT_VARIABLE(2, 0)] = 10;
+    fires("distance-to, a range slot that is not 0", 2, 10);
+    // 01's run (iv): nobody is heard in slot 2.
+    heard(2, 1, 2, CUDDYSTOVE_MARK), heard(2, 3, 2, CUDDYSTOVE_MARK);
+    same();
+    message(2), sends(2, 1, 10), sends(2, 2, 0);
+    after[CUDDYSTOVE_AT_VARIABLE(2, 0)] = CUDDYSTOVE_INF;
+    fires("01's run (iv)", 2, CUDDYSTOVE_INF);
+
+    // The shift of examples/host.c as one list: 1 to 2 is 40, 2 to 3 is 30, 1 is lit.
+    static const int32_t values[4][3] = {{CUDDYSTOVE_INF, CUDDYSTOVE_INF, CUDDYSTOVE_INF},
+                                         {0, CUDDYSTOVE_INF, CUDDYSTOVE_INF},
+                                         {0, 40, CUDDYSTOVE_INF},
+                                         {0, 40, 70}};
+    fresh(67);
+    for (int k = 0; k < 33; k++) answer(k, 0, 0);
+    for (int round = 0; round < 4; round++) {
+        answer(5 + 7 * round, 0, values[round][0]);
+        answer(7 + 7 * round, 0, values[round][1]);
+        answer(10 + 7 * round, 0, values[round][2]);
+    }
+    static const struct { uint8_t a, b; int32_t distance, slot1; } last[] = {{2, 1, 40, 0}, {1, 2, 40, 40}, {3, 2, 30, 40},
+                                                                            {2, 3, 30, CUDDYSTOVE_INF}};
+    for (int i = 0; i < 4; i++) {
+        after[CUDDYSTOVE_AT_DISTANCE(last[i].a, last[i].b)] = last[i].distance;
+        after[CUDDYSTOVE_AT_HEARD(last[i].a, last[i].b, 1)] = last[i].slot1;
+        after[CUDDYSTOVE_AT_HEARD(last[i].a, last[i].b, 2)] = 0;
+    }
+    after[CUDDYSTOVE_AT_SENSORS(1)] = 1 << 1;
+    after[CUDDYSTOVE_AT_VARIABLE(1, 0)] = 0;
+    after[CUDDYSTOVE_AT_VARIABLE(2, 0)] = 40;
+    after[CUDDYSTOVE_AT_VARIABLE(3, 0)] = 70;
+#define ROUND                                                                                                           \
+    CUDDYSTOVE_FIRE(1), CUDDYSTOVE_DELIVER(1, 2), CUDDYSTOVE_FIRE(2), CUDDYSTOVE_DELIVER(2, 1), CUDDYSTOVE_DELIVER(2, 3), \
+        CUDDYSTOVE_FIRE(3), CUDDYSTOVE_DELIVER(3, 2)
+    static const uint8_t shift[] = {CUDDYSTOVE_LINK(1, 2, 40), CUDDYSTOVE_LINK(2, 1, 40), CUDDYSTOVE_LINK(2, 3, 30),
+                                    CUDDYSTOVE_LINK(3, 2, 30), CUDDYSTOVE_SIGNAL(1, 1, 1), ROUND, ROUND, ROUND, ROUND};
+    expect("a shift of distance-to", RUN, shift, sizeof shift, 0, 0);
+    expect("a shift of distance-to", BOTH, shift, sizeof shift, 0, 0);
+}
+
+// A rep in each branch, one of them in a definition below a definition: what is not taken becomes absent, and sends nothing.
+static void choices(void) {
+    PROGRAM_IS(branches);
+    fresh(2);
+    linked(5, 6, 1000);
+    heard(5, 6, 15, 30), heard(5, 9, 15, 12), heard(5, 9, 14, 999), heard(6, 5, 1, 1);
+    same();
+    message(5);
+    after[CUDDYSTOVE_AT_VARIABLE(5, 15)] = 10;
+    fires("if, else", 5, 10);
+    message(5);
+    after[CUDDYSTOVE_AT_VARIABLE(5, 15)] = 9;
+    fires("if, else again", 5, 9);
+    senses(5, 1 << 1);
+    message(5), sends(5, 15, 7);
+    after[CUDDYSTOVE_AT_VARIABLE(5, 0)] = 0;
+    after[CUDDYSTOVE_AT_VARIABLE(5, 15)] = CUDDYSTOVE_MARK;
+    fires("if, then", 5, 0 + 30 + 12);
+    message(5), sends(5, 15, 7);
+    after[CUDDYSTOVE_AT_VARIABLE(5, 0)] = 1;
+    fires("if, then again", 5, 1 + 30 + 12);
+    arrives("if, what then sent", 5, 6);
+    senses(5, 0xffff & ~(1 << 1));
+    message(5);
+    after[CUDDYSTOVE_AT_VARIABLE(5, 0)] = CUDDYSTOVE_MARK;
+    after[CUDDYSTOVE_AT_VARIABLE(5, 15)] = 10;
+    fires("if, back to else", 5, 10);
+    arrives("if, that else sent nothing", 5, 6);
+    senses(5, 0xffff);
+    message(5), sends(5, 15, 7);
+    after[CUDDYSTOVE_AT_VARIABLE(5, 0)] = 0;
+    after[CUDDYSTOVE_AT_VARIABLE(5, 15)] = CUDDYSTOVE_MARK;
+    fires("if, back to then", 5, 0 + 30 + 12);
+
+    PROGRAM_IS(spared);
+    fresh(2);
+    faults("if, the branch that divides", 5, 5);
+    senses(5, 1);
+    fires("if, a division that is not reached", 5, 5);
+    fresh(2);
+    PROGRAM_IS(mux_first);
+    faults("mux evaluates then first", 5, 5);
+    PROGRAM_IS(if_first);
+    faults("if evaluates its condition first", 5, 2);
+    PROGRAM_IS(left_first);
+    faults("an operator evaluates its left side first", 5, 5);
+    PROGRAM_IS(fold_first);
+    faults("a fold evaluates its initial part first", 5, 5);
+    PROGRAM_IS(fold_by_first);
+    faults("a fold by definition evaluates its initial part first", 5, 5);
+    PROGRAM_IS(argument_first);
+    faults("a call evaluates its first argument first", 5, 5);
+    PROGRAM_IS(rep_first);
+    network[CUDDYSTOVE_AT_VARIABLE(5, 0)] = 1;
+    faults("rep evaluates its initial part first", 5, 5);
+    fresh(2);
+    PROGRAM_IS(mux_2);
+    fires("mux, condition 2", 5, 6);
+    PROGRAM_IS(if_2);
+    fires("if, condition 2", 5, 6);
+    PROGRAM_IS(nested);
+    after[CUDDYSTOVE_AT_VARIABLE(5, 0)] = 1;
+    fires("a rep in a rep, first", 5, 1);
+    after[CUDDYSTOVE_AT_VARIABLE(5, 0)] = 1 + 1;
+    after[CUDDYSTOVE_AT_VARIABLE(5, 1)] = 1;
+    fires("a rep in a rep, second", 5, 2);
+    after[CUDDYSTOVE_AT_VARIABLE(5, 0)] = 2 + 3;
+    after[CUDDYSTOVE_AT_VARIABLE(5, 1)] = 2 + 1;
+    fires("a rep in a rep, third", 5, 5);
+    fresh(2);
+    PROGRAM_IS(initial_again);
+    faults("rep, no initial part", 5, 3);
+    senses(5, 1 << 1);
+    after[CUDDYSTOVE_AT_VARIABLE(5, 0)] = 6;
+    fires("rep, initial", 5, 6);
+    after[CUDDYSTOVE_AT_VARIABLE(5, 0)] = 7;
+    fires("rep, update", 5, 7);
+    senses(5, 0);
+    faults("rep evaluates its initial part every round", 5, 3);
+}
+
+// Fields with a number on either side, with each other, and by an if; folds by operators and definitions, lowest device first.
+static void folds(void) {
+    PROGRAM_IS(fields);
+    fresh(2);
+    linked(8, 1, 40), linked(8, 3, 7), linked(8, 7, 9);
+    // Ranges by slot 1: 1 at 40, 3 at 7; 16 has no link, 7 was not heard with 0. 120 / 40 = 3, 120 / 7 = 17: 1000 - 3 - 17 = 980.
+    heard(8, 1, 1, 0), heard(8, 3, 1, 0), heard(8, 16, 1, 0), heard(8, 7, 1, 5);
+    // Slot 2: 1 has 3, 3 has 0 when 1 is taken off, and the fold is 01's run (x): 1.
+    heard(8, 1, 2, 4), heard(8, 3, 2, 1);
+    // Slots 3 and 4: 1, 3, 7 and 16 with 3, 7 and 16, of which 16 has no link: 5 + 7 = 12 and -2 + 9 = 7, so 1 x 12 x 7 = 84.
+    heard(8, 1, 3, 2), heard(8, 3, 3, 5), heard(8, 7, 3, -2), heard(8, 16, 3, 8);
+    heard(8, 3, 4, 0), heard(8, 7, 4, 0), heard(8, 16, 4, 0);
+    // Slot 5: 1 at 40, and 40 / 8 = 5.
+    heard(8, 1, 5, 0);
+    same();
+    message(8), sends(8, 1, 0), sends(8, 2, 0), sends(8, 5, 0);
+    fires("fields, else", 8, 980 + 10 * (1 + 5));
+    senses(8, 1 << 2 | 1 << 3);
+    message(8), sends(8, 1, 0), sends(8, 2, 1), sends(8, 3, 6), sends(8, 4, 0);
+    fires("fields, then", 8, 980 + 10 * (1 + 84));
+    linked(8, 1, 0);
+    faults("a field divides by 0", 8, 3);
+    linked(8, 1, CUDDYSTOVE_FARTHEST);
+    same();
+    message(8), sends(8, 1, 0), sends(8, 2, 1), sends(8, 3, 6), sends(8, 4, 0);
+    fires("fields, far", 8, 1000 - 0 - 17 + 10 * (1 + 84));
+    // A device that has heard nobody folds nothing: 1000, 5 and 1.
+    fires("fields, nobody heard", 2, 1000 + 10 * (5 + 1));
+
+    PROGRAM_IS(weighs);
+    fresh(2);
+    linked(2, 7, 5);
+    heard(2, 1, 1, 3), heard(2, 3, 1, 9), heard(2, 16, 1, 30);
+    same();
+    // 1 x 2 - 3 / 3 = 1, 1 x 2 - 9 / 3 = -1, -1 x 2 - 30 / 3 = -12: then, 7 x 6 - 5 / 2 = 40; the rep of the other side goes on.
+    for (int round = 0; round < 4; round++) {
+        message(2), sends(2, 1, 9);
+        after[CUDDYSTOVE_AT_VARIABLE(2, 0)] = 1 << round;
+        fires("a fold by definition, mux, calls", 2, 40);
+    }
+    // -1 x 2 - 33 / 3 = -13: else.
+    heard(2, 16, 1, 33);
+    same();
+    message(2), sends(2, 1, 9);
+    after[CUDDYSTOVE_AT_VARIABLE(2, 0)] = 16;
+    fires("mux, else", 2, 16);
+
+    // Divisions in a definition and over fields: the node that divides is named.
+    PROGRAM_IS(calls_over);
+    fresh(2);
+    faults("a call divides by 0", 2, 2);
+    senses(2, 1 << 3);
+    fires("a call divides", 2, 8);
+    PROGRAM_IS(folds_over);
+    fires("a fold by definition of nobody", 2, 100);
+    heard(2, 5, 1, 3), heard(2, 6, 1, -4);
+    same();
+    fires("a fold by definition divides", 2, -8);
+    heard(2, 7, 1, 0);
+    faults("a fold by definition divides by 0", 2, 2);
+    PROGRAM_IS(product);
+    fires("a fold over 3, -4 and 0", 2, 0);
+    PROGRAM_IS(empty_over);
+    faults("a field over 0", 2, 4);
+    fires("a field of nobody over 0", 3, 3);
+
+    // All fifteen others heard, each with its number.
+    PROGRAM_IS(gossip);
+    fresh(2);
+    for (int b = 1; b < 16; b++) heard(16, b, 3, b);
+    same();
+    fires("a fold over fifteen", 16, 100 + 120);
+}
+
+// The program is one operator on two constants.
+static void operate(uint8_t o, int32_t left, int32_t right) {
+    const uint8_t bytes[] = {CONST(left), CONST(right), 1, 0, 4, CUDDYSTOVE_OPERATOR, o, 0, 1, MAIN(2)};
+    static uint8_t table[sizeof bytes];
+    memcpy(table, bytes, sizeof table);
+    PROGRAM_IS(table);
+    fresh(2);
+}
+// What the header says of the operators, as rounds.
+static void operators(void) {
+    enum { INF = CUDDYSTOVE_INF, FLOOR = CUDDYSTOVE_FLOOR };
+    static const struct { uint8_t o; int32_t left, right, value; } rounds[] = {
+        {CUDDYSTOVE_PLUS, 2, 3, 5},
+        {CUDDYSTOVE_PLUS, INF, -5, INF},
+        {CUDDYSTOVE_PLUS, FLOOR, INF, INF},
+        {CUDDYSTOVE_PLUS, INF - 1, 7, INF},
+        {CUDDYSTOVE_PLUS, FLOOR, -1, FLOOR},
+        {CUDDYSTOVE_MINUS, 2, 3, -1},
+        {CUDDYSTOVE_MINUS, 5, INF, FLOOR},
+        {CUDDYSTOVE_MINUS, INF, 5, INF},
+        {CUDDYSTOVE_MINUS, INF, INF, INF},
+        {CUDDYSTOVE_MINUS, 0, FLOOR, INF},
+        {CUDDYSTOVE_TIMES, -3, 7, -21},
+        {CUDDYSTOVE_TIMES, 65536, 32768, INF},
+        {CUDDYSTOVE_TIMES, 65536, -32768, FLOOR},
+        {CUDDYSTOVE_TIMES, 0, INF, 0},
+        {CUDDYSTOVE_TIMES, INF, 0, 0},
+        {CUDDYSTOVE_TIMES, -1, INF, FLOOR},
+        {CUDDYSTOVE_DIVIDE, -7, 2, -3},
+        {CUDDYSTOVE_DIVIDE, 7, -2, -3},
+        {CUDDYSTOVE_DIVIDE, INF, 2, INF},
+        {CUDDYSTOVE_DIVIDE, INF, INF, INF},
+        {CUDDYSTOVE_DIVIDE, INF, -2, FLOOR},
+        {CUDDYSTOVE_DIVIDE, 7, INF, 0},
+        {CUDDYSTOVE_DIVIDE, FLOOR, INF, 0},
+        {CUDDYSTOVE_DIVIDE, FLOOR, -1, INF},
+        {CUDDYSTOVE_LESS, 2, INF, 1},
+        {CUDDYSTOVE_LESS, INF, INF, 0},
+        {CUDDYSTOVE_LESS, 3, 2, 0},
+        {CUDDYSTOVE_GREATER, INF, FLOOR, 1},
+        {CUDDYSTOVE_GREATER, 2, 2, 0},
+        {CUDDYSTOVE_GREATER, 2, 3, 0},
+        {CUDDYSTOVE_AT_LEAST, INF, INF, 1},
+        {CUDDYSTOVE_AT_LEAST, 3, 2, 1},
+        {CUDDYSTOVE_AT_LEAST, 2, 3, 0},
+        {CUDDYSTOVE_EQUAL, INF, INF, 1},
+        {CUDDYSTOVE_EQUAL, 2, -2, 0},
+        {CUDDYSTOVE_UNEQUAL, 2, -2, 1},
+        {CUDDYSTOVE_UNEQUAL, INF, INF, 0},
+    };
+    static const int32_t divided[] = {7, INF, 0, FLOOR};
+    for (size_t i = 0; i < sizeof rounds / sizeof rounds[0]; i++) {
+        operate(rounds[i].o, rounds[i].left, rounds[i].right);
+        fires("an operator", 1, rounds[i].value);
+    }
+    for (size_t i = 0; i < sizeof divided / sizeof divided[0]; i++) {
+        operate(CUDDYSTOVE_DIVIDE, divided[i], 0);
+        faults("a divisor 0", 1, 2);
+    }
+    // All sensors lit, of which 0 and 15 are the first and the last.
+    static const struct { int32_t sensor, value; } sensed[] = {{0, 1},  {15, 1}, {16, 0}, {32, 0},    {33, 0},
+                                                               {-1, 0}, {-16, 0}, {256, 0}, {INF, 0}, {FLOOR, 0}};
+    for (size_t i = 0; i < sizeof sensed / sizeof sensed[0]; i++) {
+        const uint8_t bytes[] = {CONST(sensed[i].sensor), SENSE(0), MAIN(1)};
+        static uint8_t table[sizeof bytes];
+        memcpy(table, bytes, sizeof table);
+        PROGRAM_IS(table);
+        fresh(2);
+        senses(1, 0xffff);
+        fires("sense", 1, sensed[i].value);
+    }
 }
 
 // Two orders of one shift: all ends alike. And one side refused alone.
@@ -344,6 +797,10 @@ int main(void) {
     networks();
     lists();
     events();
+    distances();
+    choices();
+    folds();
+    operators();
     orders();
     say_number(passed);
     say(" passed, ");

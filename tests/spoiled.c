@@ -1,0 +1,81 @@
+// The engine with one call spoiled, SPOIL of the list below, to show that tests/calls.c can fail. Linked with -Wl,--wrap=FUNCTION for
+// each call, so that tests/calls.c calls the __wrap functions here, and these the engine by its __real names.
+#include "cuddystove.h"
+#include <stdlib.h>
+#include <string.h>
+
+enum spoil {
+    READS_BEYOND_PROGRAM = 1, // check
+    LEAVES_A_CELL,            // fresh: the last
+    READS_BEFORE_LIST,        // event
+    NEVER_STORES,             // event: the answers are right
+    WRITES_A_CELL,            // event: one that no event here has to do with
+    WRITES_BEYOND_SPACE,      // run
+    WRITES_THE_PROGRAM,       // run: the byte that was there
+    WRONG_PLACE,              // run: of a refusal
+    SECOND_AS_FIRST,          // run_both: answers the first list in the second space
+    USES_HEAP,                // run: only valgrind sees it
+    READS_UNWRITTEN           // run: only valgrind sees it
+};
+#define PROGRAM const uint8_t *program, size_t program_length
+#define REST int32_t *network, size_t network_length, const uint8_t *list, size_t list_length, int32_t *space, size_t space_length
+#define TWICE                                                                                                                    \
+    int32_t *network1, size_t network1_length, int32_t *network2, size_t network2_length, const uint8_t *list1,                \
+        size_t list1_length, const uint8_t *list2, size_t list2_length, int32_t *space1, size_t space1_length, int32_t *space2, \
+        size_t space2_length
+struct cuddystove_verdict __real_cuddystove_check(PROGRAM), __wrap_cuddystove_check(PROGRAM);
+struct cuddystove_verdict __real_cuddystove_fresh(int32_t *, size_t), __wrap_cuddystove_fresh(int32_t *, size_t);
+struct cuddystove_verdict __real_cuddystove_event(PROGRAM, REST), __wrap_cuddystove_event(PROGRAM, REST);
+struct cuddystove_verdict __real_cuddystove_run(PROGRAM, REST), __wrap_cuddystove_run(PROGRAM, REST);
+struct cuddystove_verdicts __real_cuddystove_run_both(PROGRAM, TWICE), __wrap_cuddystove_run_both(PROGRAM, TWICE);
+
+static volatile int seen;
+static void look(const volatile uint8_t *at) { seen += *at; }
+
+struct cuddystove_verdict __wrap_cuddystove_check(PROGRAM) {
+    if (SPOIL == READS_BEYOND_PROGRAM) look(program + program_length);
+    return __real_cuddystove_check(program, program_length);
+}
+
+struct cuddystove_verdict __wrap_cuddystove_fresh(int32_t *network, size_t length) {
+    int32_t kept = length > 0 ? network[length - 1] : 0;
+    struct cuddystove_verdict v = __real_cuddystove_fresh(network, length);
+    if (SPOIL == LEAVES_A_CELL && length > 0) network[length - 1] = kept;
+    return v;
+}
+
+struct cuddystove_verdict __wrap_cuddystove_event(PROGRAM, REST) {
+    static int32_t kept[CUDDYSTOVE_CELLS];
+    const int whole = network_length == CUDDYSTOVE_CELLS;
+    struct cuddystove_verdict v;
+    if (whole) memcpy(kept, network, sizeof kept);
+    if (SPOIL == READS_BEFORE_LIST) look(list - 1);
+    v = __real_cuddystove_event(program, program_length, network, network_length, list, list_length, space, space_length);
+    for (int a = 1; SPOIL == NEVER_STORES && whole && a <= CUDDYSTOVE_DEVICES; a++)
+        memcpy(network + CUDDYSTOVE_AT_VARIABLE(a, 0), kept + CUDDYSTOVE_AT_VARIABLE(a, 0), 4 * CUDDYSTOVE_VARIABLES);
+    if (SPOIL == WRITES_A_CELL && whole && v.number == 0) network[CUDDYSTOVE_AT_HEARD(13, 12, 11)] = 0;
+    return v;
+}
+
+struct cuddystove_verdict __wrap_cuddystove_run(PROGRAM, REST) {
+    struct cuddystove_verdict v =
+        __real_cuddystove_run(program, program_length, network, network_length, list, list_length, space, space_length);
+    if (SPOIL == WRITES_BEYOND_SPACE) ((volatile int32_t *)space)[space_length] = 0;
+    if (SPOIL == WRITES_THE_PROGRAM && program_length > 0) *(volatile uint8_t *)program = program[0];
+    if (SPOIL == WRONG_PLACE && v.number != 0) v.place++;
+    if (SPOIL == USES_HEAP) {
+        void *volatile block = malloc(16);
+        free(block);
+    }
+    if (SPOIL == READS_UNWRITTEN) {
+        volatile uint8_t unwritten[16];
+        if (unwritten[seen & 15] == 7) seen++;
+    }
+    return v;
+}
+
+struct cuddystove_verdicts __wrap_cuddystove_run_both(PROGRAM, TWICE) {
+    if (SPOIL == SECOND_AS_FIRST) list2 = list1, list2_length = list1_length;
+    return __real_cuddystove_run_both(program, program_length, network1, network1_length, network2, network2_length, list1,
+                                      list1_length, list2, list2_length, space1, space1_length, space2, space2_length);
+}
