@@ -66,6 +66,17 @@ joined {ws} {n} f sum e0 e1 e2 e3 e4 e5 =
     turn : (s b x0 x1 x2 x3 : ℕ) → s + 1 + b + x3 + x2 + x1 + x0 ≡ s + (1 + x0 + x1 + x2 + x3 + b)
     turn s b x0 x1 x2 x3 = omega arith
 
+-- of an operator, which has two operands and no body
+pub operator-joined : {ws : List ℕ} {n s0 s4 s5 : ℕ} → Formed ws n → (sum : ℕ) → form (word ws n) ≡ 3 → s0 ≡ capped (sum + 1)
+    → s4 ≡ capped (s0 + cost (part ws (word ws n) 1))
+    → s5 ≡ capped (s4 + cost (part ws (word ws n) 0))
+    → s5 ≡ capped (sum + cost (treeAt ws n))
+unfolding cost width bodyCost
+operator-joined {ws} {n} {s0} f sum h e0 e4 e5 = joined {s1 = s0} {s2 = s0} {s3 = s0} f sum e0 (rw h same) (rw h same) (rw h same) e4 e5
+  where
+    same : s0 ≡ capped (s0 + 0)
+    same = omega arith
+
 -- ---- what a body adds, by the form
 module _ {ws notes : List ℕ} (w : ℕ) {k : ℕ} (e : k ≡ form w) (sum : ℕ) where
   pub body-fold : {r x y o : ℕ} → k ≡ 8 → o ≡ operand w 4 → Gives ws notes x (cost (treeAt ws o)) → y ≡ capped (15 * x) → r ≡ capped (sum + y)

@@ -85,7 +85,13 @@ fn cost(ws: &[u64; NODES], notes: &mut [u32; NODES], n: usize, sum: u32) -> u32
     requires { ⌜ Asks (now ws) (now notes) n × (sum ≤ 1000001) ⌝ }
     ensures { λ r. ⌜ Gives (now (ws .entry)) (now (notes .exit)) r (sum + costOf (treeAt (now (ws .entry)) n)) ⌝ }
 {
-    let s = body(ws, notes, n, add(sum, 1));
+    let w = ws[n];
+    let s = add(sum, 1);
+    if form_of(w) == 3 {
+        let s = part(ws, notes, n, 1, s);
+        return part(ws, notes, n, 0, s); // an operator
+    }
+    let s = body(ws, notes, n, s);
     let s = part(ws, notes, n, 3, s);
     let s = part(ws, notes, n, 2, s);
     let s = part(ws, notes, n, 1, s);

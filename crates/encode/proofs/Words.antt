@@ -1,15 +1,14 @@
 -- Constants as words; what is known of a form and an item by the kind. Assumes nothing.
 use mathlib.Core.Path.{_≡_, refl, ap, subst}
 use mathlib.Core.Bool.{Bool, true, false, cond, _&&_, _||_}
-use mathlib.Core.List.{[], _∷_}
-use Prim.Native.Nat.{ℕ, zero, suc, _+_, _-_, _*_, _/_, _<_, _≤_}
+use Prim.Native.Nat.{ℕ, zero, suc, _+_, _*_, _/_, _%_, _<_, _≤_}
 use native.Mathlib.Omega.{arith}
 use lib.ListN.{getD}
 use lib.IntN.{pos, negsuc, _-ℤ_}
 use lib.Dec.{eqb, leb, ltb}
-use borrow.Author.Tests.{ltb-true, lt-ltb, le-ltb}
+use borrow.Author.Tests.{ltb-true, ltb-false, lt-ltb, le-ltb}
 use Rattle.program.specs.Tree.{signed}
-use Rattle.words.specs.Word.{form}
+use Rattle.words.specs.Word.{form, constantOf}
 use Rattle.operands.specs.Formed.{widths}
 use Rattle.nodes.specs.declared.Node.{Node}
 use Rattle.shapes.specs.Shapes.{leadOf, kidsOf}
@@ -23,11 +22,12 @@ sub-low m c e h = rw (le-ltb m 2147483648 (omega arith), lt-ltb c 2147483648 h) 
 sub-high : (m c : ℕ) → m + 2147483648 ≡ c → c < 4294967296 → pos m -ℤ pos 2147483648 ≡ signed c
 sub-high m c e h = rw (lt-ltb m 2147483648 (omega arith), le-ltb c 2147483648 (omega arith)) (ap negsuc (omega arith))
 
-pub low-constant : (c w : ℕ) → c < 2147483648 → w ≡ (c + 2147483648) * 4294967296 → IsConstant c w
-low-constant c w h e = record { isForm = omega arith; isNumber = sub-low (w / 4294967296) c (omega arith) h }
-
-pub high-constant : (c w : ℕ) → 2147483648 ≤ c → c < 4294967296 → w ≡ (c - 2147483648) * 4294967296 → IsConstant c w
-high-constant c w h l e = record { isForm = omega arith; isNumber = sub-high (w / 4294967296) c (omega arith) l }
+pub constant-is : (c w : ℕ) → c < 4294967296 → w ≡ (c + 2147483648) % 4294967296 * 4294967296 → IsConstant c w
+constant-is c w l e = record { isForm = omega arith; isNumber = go (ltb c 2147483648) refl }
+  where
+    go : (b : Bool) → ltb c 2147483648 ≡ b → constantOf w ≡ signed c
+    go true q = let h : c < 2147483648 = ltb-true c 2147483648 q in sub-low (w / 4294967296) c (omega arith) h
+    go false q = let h : 2147483648 ≤ c = ltb-false c 2147483648 q in sub-high (w / 4294967296) c (omega arith) l
 
 -- ---- by kind: a form is known, a number's or a field's; it has as many operands as the kind has children, a body where the kind has one
 abbrev pub widthBy : ℕ → ℕ → ℕ
@@ -75,7 +75,7 @@ item-fits (suc (suc (suc (suc (suc (suc (suc (suc (suc (suc (suc zero)))))))))))
 item-fits (suc (suc (suc (suc (suc (suc (suc (suc (suc (suc (suc (suc zero)))))))))))) i w r = (omega arith, omega arith)
 item-fits (suc (suc (suc (suc (suc (suc (suc (suc (suc (suc (suc (suc (suc k))))))))))))) i w r = (omega arith, omega arith)
 
--- ---- a word's form, whatever the kind
+-- ---- a word's form, whatever the kind; a word by its parts
 pub form-is : {x : Node} {b w : ℕ} {s t : Bool} → IsWord x b s t w → form w ≡ formBy (x .kind) s t
 form-is {x} {b} {w} {s} {t} r = go (x .kind) refl
   where
@@ -86,10 +86,10 @@ form-is {x} {b} {w} {s} {t} r = go (x .kind) refl
 pub form-fits : (kind : ℕ) (s t : Bool) → kind < 13 → formBy kind s t < 32
 form-fits kind s t h = omega (arith, ltb-true (formBy kind s t) 20 (shape kind 0 s t h .known))
 
--- the code's table
-pub form-table : (kind : ℕ) {o f : ℕ} (s t : Bool) → o ≡ cond s 19 3 → f ≡ cond t 18 6
-    → getD (0 ∷ 1 ∷ 2 ∷ o ∷ 4 ∷ 5 ∷ f ∷ 7 ∷ 16 ∷ 17 ∷ 10 ∷ 8 ∷ 9 ∷ []) kind 0 ≡ formBy kind s t
-form-table kind s t p q = rw (p, q)
-
-pub same-form : {f g i b w : ℕ} {x : Node} → f ≡ g → IsParts f i x b w → IsParts g i x b w
-same-form {f} {g} {i} {b} {w} {x} e p = subst (λ (z : ℕ). IsParts z i x b w) e p
+pub worded : {x : Node} {b f i w : ℕ} {s t : Bool} → (x .kind ≡ 0 → ⊥) → f ≡ formBy (x .kind) s t → i ≡ itemBy (x .kind) (x .item)
+    → IsParts f i x b w → IsWord x b s t w
+worded {x} {b} {f} {i} {w} {s} {t} n e o p =
+    record {
+      isConstant = λ z. absurd (n z);
+      isParts = λ _. subst (λ (k : ℕ). IsParts (formBy (x .kind) s t) k x b w) o (subst (λ (k : ℕ). IsParts k i x b w) e p);
+    }

@@ -1,4 +1,4 @@
--- The word of one node, part by part. Internal: no public contract cites it. Definitions only: nothing is assumed.
+-- The word of one node, part by part. Internal: no contract of a C function cites it. Definitions only: nothing is assumed.
 use mathlib.Core.Path.{_≡_}
 use mathlib.Core.Bool.{Bool, cond}
 use mathlib.Core.List.{[], _∷_}
@@ -7,6 +7,7 @@ use lib.ListN.{getD}
 use lib.Dec.{ltb}
 use Rattle.program.specs.Tree.{signed}
 use Rattle.words.specs.Word.{form, item, p1, p2, p3, p4, body, count, constantOf}
+use Rattle.shapes.specs.Shapes.{kidsOf}
 use Rattle.nodes.specs.declared.Node.{Node}
 
 -- the form of a kind: side, where an operator has a field for a side; branch, where the second child is a field
@@ -42,6 +43,13 @@ pub record Fits (x : Node) : Type 0 where
   pub kind : x .kind < 13
   pub kids : x .kids ≤ 4
   pub item : itemBy (x .kind) (x .item) < 16
+
+-- a node without children: its kind has none, or its definition has no parameters
+pub record Leaf (x : Node) : Type 0 where
+  pub fits : Fits x
+  pub none : x .kids ≡ 0
+  pub count : ℕ
+  pub kind : kidsOf (x .kind) count ≡ 0
 
 pub record IsWord (x : Node) (b : ℕ) (side branch : Bool) (w : ℕ) : Type 0 where
   pub isConstant : x .kind ≡ 0 → IsConstant (x .constant) w

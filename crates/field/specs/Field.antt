@@ -11,11 +11,12 @@ use Rattle.number.specs.Number.{Operator, result, faults}
 abbrev pub devices : ℕ
 devices = 16
 
--- f at device 1, 2, .. 16, lowest first
+-- f at a, a + 1, .., k of them
 unfoldable pub from : {A : Type 0} → ℕ → ℕ → (ℕ → A) → List A
 from a zero f = []
 from a (suc k) f = f a ∷ from (suc a) k f
 
+-- f at device 1, 2, .. 16, lowest first
 abbrev pub each : {A : Type 0} → (ℕ → A) → List A
 each f = from 1 devices f
 

@@ -5,8 +5,7 @@ use Prim.Native.Nat.{ℕ, zero, suc, _+_, _*_}
 use native.Mathlib.Omega.{arith}
 use native.Mathlib.Numerals.{add-one}
 use lib.ListN.{length, set, replicate, length-append, length-replicate, replicate-append-replicate}
-use lib.IntN.{ℤ, pos}
-use Rattle.number.specs.Number.{mark}
+use lib.IntN.{ℤ}
 use Rattle.network.specs.Cells.{store}
 use Rattle.network.proofs.Stores.{store-on, set-on}
 use Rattle.network.specs.Network.{copies, freshBlock, fresh}
@@ -41,14 +40,6 @@ module _ {A : Type 0} where
   store-all (x ∷ l) (y ∷ v) e = ap (y ∷_) (store-all l v (omega arith))
 
 -- ---- a fresh network
--- a device's variables, sensors, heard rows and pending rows, stored one after the other
-pub block-on : (l m₁ m₂ m₃ : List ℤ) (at j k : ℕ) (p : List ℤ) → m₁ ≡ store l at (replicate 16 mark) → m₂ ≡ store (set m₁ (at + 16) (pos 0)) j (replicate 256 mark)
-    → j ≡ at + 17 → m₃ ≡ store m₂ k p → k ≡ at + 273 → m₃ ≡ store l at (replicate 16 mark ++ (pos 0 ∷ replicate 256 mark ++ p))
-block-on l m₁ m₂ m₃ at j k p d e f g h =
-    g ∙ rw (e, set-on l m₁ at (at + 16) (replicate 16 mark) (pos 0) d refl)
-    (ap (λ (x : List ℤ). store x k p) (store-on l at j (replicate 16 mark ++ pos 0 ∷ []) (replicate 256 mark) f)
-    ∙ store-on l at k ((replicate 16 mark ++ pos 0 ∷ []) ++ replicate 256 mark) p h)
-
 pub length-block : length freshBlock ≡ 529
 unfolding copies
 length-block = refl

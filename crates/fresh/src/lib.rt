@@ -1,11 +1,11 @@
 // Making a network fresh.
 ghost use mathlib.Core.Path.{_≡_};
 ghost use Prim.Native.Nat.{_+_, _≤_};
-ghost use lib.ListN.{replicate};
+ghost use lib.ListN.{length, replicate};
 ghost use Rattle.number.specs.Number.{mark};
 ghost use Rattle.verdict.specs.Pair.{pair};
 ghost use Rattle.network.specs.Cells.{store};
-ghost use Rattle.network.specs.Network.{noMessage, copies, freshBlock, freshCall};
+ghost use Rattle.network.specs.Network.{noMessage, freshBlock, freshCall};
 
 const CELLS: usize = 8464;
 
@@ -32,25 +32,30 @@ pub fn no_message(net: &mut [i32], at: usize)
     clear(net, at + 1, 15);
 }
 
-fn no_messages(net: &mut [i32], at: usize)
-    requires { do ⌜ at + 256 ≤ (← ⟦net.len()⟧) ⌝ }
-    ensures { λ _. ⌜ now (net .exit) ≡ store (now (net .entry)) at (copies 16 noMessage) ⌝ }
+// The cells of a device of a fresh network.
+fn fresh_block() -> [i32; 529]
+    ensures { λ r. ⌜ r ≡ freshBlock ⌝ }
 {
+    let mut block = [MARK; 529];
+    block[16] = 0;
     let mut b: usize = 0;
     while b < 16 {
-        no_message(net, at + 16 * b);
+        block[273 + 16 * b] = 0;
         b += 1;
     }
+    block
 }
 
-fn fresh_block(net: &mut [i32], at: usize)
-    requires { do ⌜ at + 529 ≤ (← ⟦net.len()⟧) ⌝ }
-    ensures { λ _. ⌜ now (net .exit) ≡ store (now (net .entry)) at freshBlock ⌝ }
+// The 529 cells from `at` become those of `block`.
+fn put(net: &mut [i32], at: usize, block: &[i32; 529])
+    requires { ⌜ (at + 529 ≤ length (now net)) × (length (now block) ≡ 529) ⌝ }
+    ensures { λ _. ⌜ now (net .exit) ≡ store (now (net .entry)) at (now (block .entry)) ⌝ }
 {
-    clear(net, at, 16);
-    net[at + 16] = 0;
-    clear(net, at + 17, 256);
-    no_messages(net, at + 273);
+    let mut i: usize = 0;
+    while i < 529 {
+        net[at + i] = block[i];
+        i += 1;
+    }
 }
 
 // The network becomes fresh. Only a wrong length is refused.
@@ -60,9 +65,10 @@ pub fn fresh(net: &mut [i32]) -> verdict::Verdict
     if net.len() != CELLS {
         return verdict::refused(11, 0);
     }
+    let block = fresh_block();
     let mut device: usize = 0;
     while device < 16 {
-        fresh_block(net, device * 529);
+        put(net, device * 529, &block);
         device += 1;
     }
     verdict::accepted()

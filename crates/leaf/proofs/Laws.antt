@@ -33,6 +33,11 @@ right {ws} {us} {n} s h = s n h
 abbrev pub ev : List ℕ → ℕ → List ℤ → List ℤ → State → Outcome
 ev ws a here env s = eval here (treeAt ws a) env s
 
+-- a fold, by a definition or by an operator: its two parts a and b, and what it does with their values
+pub record Folds (ws : List ℕ) (a b : ℕ) (here env : List ℤ) (s : State) (o : Outcome) : Type 0 where
+  pub onward : ℤ → Field → State → Outcome
+  pub whole : o ≡ thenNumber (ev ws a here env s) (λ x s1. thenField (ev ws b here env s1) (λ g s2. onward x g s2))
+
 module _ (ws us : List ℕ) (n : ℕ) (sd : Sound ws us) (h : n < 256) (k : ℕ) (e : k ≡ form (word ws n)) (here env : List ℤ) (s : State) where
   pub ev-lit : k ≡ 0 → ev ws n here env s ≡ done (number (constantOf (word ws n))) s
   unfolding eval
@@ -74,9 +79,18 @@ module _ (ws us : List ℕ) (n : ℕ) (sd : Sound ws us) (h : n < 256) (k : ℕ)
   unfolding eval
   ev-call z d a b c q t0 t1 t2 t3 ed ea eb ec eq f0 f1 f2 f3 = let r = right sd h .call (sym e ∙ z) in ap (λ (x : Expr). eval here x env s) (tree-call ws n k e z d a b c q t0 t1 t2 t3 ed ea eb ec eq f0 f1 f2 f3 (r .0 .0) (r .1 .0) (r .2 .0) (r .3 .0) (r .4 .0))
 
+  -- a definition without parameters is called as it stands
+  pub ev-bare : k ≡ 9 → (d : ℕ) → d ≡ body (word ws n) → count (word ws n) ≡ 0 → ev ws n here env s ≡ ev ws d here (arguments (pos 0) (pos 0) (pos 0) (pos 0)) s
+  unfolding eval
+  ev-bare z d ed ec = ev-call z d _ _ _ _ false false false false ed refl refl refl refl (sym (ap (ltb 0) ec)) (sym (ap (ltb 1) ec)) (sym (ap (ltb 2) ec)) (sym (ap (ltb 3) ec))
+
   pub ev-foldop : k ≡ 10 → (o a b : ℕ) → o ≡ item (word ws n) → a ≡ p1 (word ws n) → b ≡ p2 (word ws n) → ev ws n here env s ≡ thenNumber (ev ws a here env s) (λ x s1. thenField (ev ws b here env s1) (λ g s2. folded (λ x y s. onNumbers n (operatorOf o) x y s) g x s2))
   unfolding eval
   ev-foldop z o a b eo ea eb = let r = right sd h .foldOp (sym e ∙ z) in ap (λ (x : Expr). eval here x env s) (tree-foldop ws n k e z o a b eo ea eb (r .0 .0) (r .1 .0))
+
+  pub ev-folds : (k ≡ 8) ⊎ (k ≡ 10) → (a b : ℕ) → a ≡ p1 (word ws n) → b ≡ p2 (word ws n) → Folds ws a b here env s (ev ws n here env s)
+  ev-folds (inl z) a b ea eb = record { onward = λ x g t. folded (λ acc y u. ev ws (body (word ws n)) here (arguments acc y (pos 0) (pos 0)) u) g x t; whole = ev-fold z _ a b refl ea eb }
+  ev-folds (inr z) a b ea eb = record { onward = λ x g t. folded (λ x y u. onNumbers n (operatorOf (item (word ws n))) x y u) g x t; whole = ev-foldop z _ a b refl ea eb }
 
   pub ev-nbr : k ≡ 16 → (o a : ℕ) → o ≡ item (word ws n) → a ≡ p1 (word ws n) → ev ws n here env s ≡ thenNumber (ev ws a here env s) (λ x s1. done (field (heardIn here o)) (sending o x s1))
   unfolding eval
@@ -169,6 +183,15 @@ no-argument ws there n here env s e = rw e
 
 pub an-argument : (ws : List ℕ) (there : Bool) (n : ℕ) (here env : List ℤ) (s : State) → there ≡ true → eval here (argOf ws there n) env s ≡ ev ws n here env s
 an-argument ws there n here env s e = rw e
+
+-- ---- the forms of a fold
+pub fold-parts : {ws us : List ℕ} {n k : ℕ} → Right ws us n → k ≡ form (word ws n) → (k ≡ 8) ⊎ (k ≡ 10) → Num ws n (p1 (word ws n)) × Fld ws n (p2 (word ws n))
+fold-parts r e (inl z) = let q = r .foldBy (sym e ∙ z) in (q .1, q .2)
+fold-parts r e (inr z) = r .foldOp (sym e ∙ z)
+
+pub is-10 : {k : ℕ} → (k ≡ 8) ⊎ (k ≡ 10) → (k ≡ 8 → ⊥) → k ≡ 10
+is-10 (inl z) h = absurd (h z)
+is-10 (inr z) h = z
 
 -- ---- a form of a number that no arm has is a leaf's
 below-7 : (f : ℕ) → f < 11 → (f ≡ 10 → ⊥) → (f ≡ 9 → ⊥) → (f ≡ 8 → ⊥) → (f ≡ 7 → ⊥) → f < 7

@@ -1,9 +1,8 @@
 // Lists of events as bytes: how many there are, or where the list is refused, and the event of a field. Each exactly as the crate event defines it.
 ghost use mathlib.Core.Path.{_≡_};
-ghost use mathlib.Core.List.{[], _∷_};
 ghost use Prim.Native.Nat.{_+_, _≤_};
 ghost use lib.ListN.{length, take, drop};
-ghost use Rattle.wire.specs.Wire.{big, fieldsOf};
+ghost use Rattle.wire.specs.Wire.{fieldsOf};
 ghost use Rattle.program.specs.Tree.{signed};
 ghost use Rattle.event.specs.Event.{readAs, readList, readOne};
 ghost use Rattle.lists.specs.Listed.{asRead, countOf, bodyLength, known};
@@ -48,13 +47,6 @@ fn is_event(tag: u8, len: usize) -> bool
     n == len
 }
 
-// Four bytes, high first.
-fn be32(a: u8, b: u8, c: u8, d: u8) -> u32
-    ensures { λ r. ⌜ r ≡ big (a ∷ b ∷ c ∷ d ∷ []) ⌝ }
-{
-    (((a as u32) * 256 + (b as u32)) * 256 + (c as u32)) * 256 + (d as u32)
-}
-
 // The number of 32 bits.
 fn number_of(w: u32) -> i32
     ensures { λ r. ⌜ r ≡ signed w ⌝ }
@@ -71,7 +63,7 @@ fn link_at(s: &[u8], start: usize) -> Event
     requires { do ⌜ start + 6 ≤ (← ⟦s.len()⟧) ⌝ }
     ensures { λ r. ⌜ asRead r ≡ readAs 0x13 (take 6 (drop start (now (s .entry)))) ⌝ }
 {
-    let w = be32(s[start + 2], s[start + 3], s[start + 4], s[start + 5]);
+    let w = reader::be32(s[start + 2], s[start + 3], s[start + 4], s[start + 5]);
     Event::Link(s[start], s[start + 1], number_of(w))
 }
 

@@ -23,10 +23,11 @@ use Rattle.nodes.specs.Values.{childrenOf, nodeOf}
 use Rattle.nodes.proofs.Items.{same-kids, few-kids, in-ranges}
 use Rattle.nodes.proofs.Body.{children-made, node-made, node-children, node-slots, node-keeps}
 use Rattle.marks.proofs.Marks.{same, among-append, set-agrees, if-agrees, marked-agrees}
-use Rattle.rows.specs.Marks.{Marks, withRoot}
-use Rattle.rows.specs.Marks.{withNode as marksWith}
+use Rattle.kinds.specs.Marks.{Marks, withRoot}
+use Rattle.kinds.specs.Marks.{withNode as marksWith}
 use Rattle.rows.specs.Shows.{Shows}
-use Rattle.rows.proofs.Clear.{NodeClear, DefinitionClear}
+use Rattle.kinds.proofs.Clear.{NodeClear}
+use Rattle.rows.proofs.Clear.{DefinitionClear}
 use Rattle.load.specs.declared.Table.{Table}
 use Rattle.load.specs.Loads.{paired, tableOf, nodeAt, GoodNode, Good}
 use Rattle.load.specs.Steps.{emptyTable, noMarks, put, addKind, define}

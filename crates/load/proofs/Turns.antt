@@ -7,6 +7,7 @@ use Prim.Native.Nat.{ℕ, zero, suc, _+_, _-_, _*_, _≤_, _<_}
 use native.Mathlib.Omega.{arith}
 use lib.ListN.{length, getD, take, drop, set, length-drop}
 use lib.Dec.{eqb, leb}
+use denote.Enum.Declared.{tagOf, declared}
 use borrow.Author.Tests.{eqb-true, eqb-false, eq-eqb, ne-eqb}
 use Rattle.wire.specs.Wire as wire
 use Rattle.wire.specs.Wire.{Fields, cut, fieldsIn, fieldsOf}
@@ -15,20 +16,24 @@ use Rattle.program.specs.Table.{Rows, firstOf, Entry, aNode, aDefinition, aMain
 use Rattle.reader.specs.declared.Field.{Field}
 use Rattle.reader.specs.declared.Field.the-variants.{Whole, Cut, End}
 use Rattle.reader.specs.Field.{fieldAt, fieldsFrom}
+use Rattle.reader.proofs.Field.{enum}
 use Rattle.reader.proofs.Laws.{placed, before-end, at-end, found}
 use Rattle.nodes.specs.declared.Node.{Node}
 use Rattle.marks.specs.Marked.{unmarked}
 use Rattle.marks.proofs.Marks.{set-agrees, unmarked-is}
-use Rattle.rows.specs.Numbers.{fieldNumber, definitionNumber, mainNumber, nodeNumber}
-use Rattle.rows.specs.Marks.{Marks, withNode, withRoot}
-use Rattle.rows.specs.Reads.{nodeFrom}
+use Rattle.kinds.specs.declared.Read.{Read}
+use Rattle.kinds.specs.Marks.{Marks, marksOf, withNode, withRoot}
+use Rattle.kinds.specs.Numbers.{nodeNumber}
+use Rattle.kinds.specs.Reads.{nodeFrom, ReadsNode}
+use Rattle.kinds.proofs.Clear.{node-clear}
+use Rattle.rows.specs.Numbers.{fieldNumber, definitionNumber, mainNumber}
+use Rattle.rows.specs.Roots.{TakesRoot}
 use Rattle.rows.specs.Shows.{Shows}
-use Rattle.rows.proofs.Clear.{node-clear, definition-clear, main-clear}
-use Rattle.rows.proofs.Rows.{entryNumber, byTag, entry-is, field-rows, definition-rows, node-rows, main-rows}
+use Rattle.rows.proofs.Clear.{definition-clear, main-clear}
+use Rattle.rows.proofs.Rows.{entryNumber, entry-is, field-rows, definition-rows, node-rows, main-rows}
 use Rattle.load.specs.declared.Table.{Table}
-use Rattle.load.specs.declared.Step.{Step}
 use Rattle.load.specs.Loads.{tableOf, Good, Loads}
-use Rattle.load.specs.Steps.{tableIn, emptyTable, noMarks, refusal, numberIn, put, addNode, define, added, addedMarks, endNumber, withMain, Gives, Sees, broken, whole, Reads}
+use Rattle.load.specs.Steps.{tableIn, emptyTable, noMarks, refusal, numberIn, put, addNode, define, endNumber, withMain}
 use Rattle.load.proofs.State.{State, shows-of, beginning, empty-shown, put-shown, put-state, define-shown, define-state}
 
 -- rows of which none holds, and rows of which one does
@@ -45,85 +50,87 @@ stopped t (aDefinition s) place e rest go q h = one-holds (definitionRows t s) p
 stopped t (aMain s) place e rest go q h = one-holds (mainRows t s) place e _ q h
 stopped t unknown place e rest go q h = ap (λ (n : ℕ). refused n place) (sym q)
 
--- a field that is taken
-record Taken (t : program.Table) (en : Entry) (u : Table) (m : Marks) : Type 0 where
-  pub shown : (place : ℕ) (rest : Fields) (go : program.Table → Loaded) → onEntry place t en rest go ≡ go (tableOf u)
+-- a field that is taken: one node or definition more
+record Taken (t : Table) (en : Entry) (u : Table) (m : Marks) : Type 0 where
+  pub shown : (place : ℕ) (rest : Fields) (go : program.Table → Loaded) → onEntry place (tableOf t) en rest go ≡ go (tableOf u)
+  pub more : u .n + u .defs ≡ suc (t .n + t .defs)
   pub state : State u m
 
 module _ (t : Table) (m : Marks) (tag : ℕ) (b : List ℕ) where
   abbrev n-of : ℕ
   n-of = nodeNumber (getD b 0 0) (drop 1 b) (t .n) (t .defs) (getD (t .counts) (getD (drop 1 b) 0 0) 0) m
 
-  -- there is room for what is taken
-  room-definition : numberIn t m tag b ≡ 0 → tag ≡ 2 → t .defs < 32
-  unfolding fieldNumber
-  room-definition e q = definition-clear b (t .n) (t .defs) (m .named) (rw q at e) .room
+  abbrev d-of : ℕ
+  d-of = definitionNumber b (t .n) (t .defs) (m .named)
 
-  room-node : numberIn t m tag b ≡ 0 → (tag ≡ 2 → ⊥) → (tag ≡ 3 → ⊥) → t .n < 256
+  -- what no refusal tells of a node, of a definition, of the main node
+  node-number : numberIn t m tag b ≡ 0 → tag ≡ 1 → (eqb (length b) 0 ≡ false) × (n-of ≡ 0)
   unfolding fieldNumber
-  room-node e p d = go (eqb tag 1) (eqb (length b) 0) (rw (ne-eqb tag 2 p, ne-eqb tag 3 d) at e)
+  node-number e q = go (eqb (length b) 0) (rw q at e)
     where
-      go : (h i : Bool) → cond h (cond i 1 n-of) 1 ≡ 0 → t .n < 256
-      go true true e = absurd (omega arith)
-      go true false e = node-clear (getD b 0 0) (drop 1 b) (t .n) (t .defs) _ m e .room
-      go false i e = absurd (omega arith)
+      go : (i : Bool) → cond i 1 n-of ≡ 0 → (i ≡ false) × (n-of ≡ 0)
+      go true e = absurd (omega arith)
+      go false e = (refl, e)
 
-  -- no other tag is there
-  is-node : numberIn t m tag b ≡ 0 → (tag ≡ 2 → ⊥) → (tag ≡ 3 → ⊥) → tag ≡ 1
+  definition-number : numberIn t m tag b ≡ 0 → (tag ≡ 1 → ⊥) → (tag ≡ 3 → ⊥) → (tag ≡ 2) × (d-of ≡ 0)
   unfolding fieldNumber
-  is-node e p d = go (eqb tag 1) refl (rw (ne-eqb tag 2 p, ne-eqb tag 3 d) at e)
+  definition-number e p d = go (eqb tag 2) refl (rw (ne-eqb tag 1 p, ne-eqb tag 3 d) at e)
     where
-      go : (h : Bool) → eqb tag 1 ≡ h → cond h (cond (eqb (length b) 0) 1 n-of) 1 ≡ 0 → tag ≡ 1
-      go true q e = eqb-true tag 1 q
+      go : (f : Bool) → eqb tag 2 ≡ f → cond f d-of 1 ≡ 0 → (tag ≡ 2) × (d-of ≡ 0)
+      go true q e = (eqb-true tag 2 q, e)
       go false q e = absurd (omega arith)
 
-module _ (t : Table) (m : Marks) (st : State t m) (tag : ℕ) (b : List ℕ) where
-  shows : Shows (t .n) (t .defs) (t .counts) m (tableOf t)
-  shows = shows-of t m st
-
-  node-taken : n-of t m tag b ≡ 0 → Taken (tableOf t) (aNode (getD b 0 0) (drop 1 b)) (addNode t b) (withNode (nodeFrom (t .counts) b) m)
-  unfolding addNode
-  node-taken e =
-      let cl = node-clear (getD b 0 0) (drop 1 b) (t .n) (t .defs) _ m e in
-      let q = sym (node-rows (t .n) (t .defs) (t .counts) m (tableOf t) shows (getD b 0 0) (drop 1 b)) ∙ e in
-      record {
-        shown = λ place rest go. none-holds (nodeRows (tableOf t) (getD b 0 0) (drop 1 b)) place _ q ∙ ap go (sym (put-shown t m st (getD b 0 0) (drop 1 b) cl));
-        state = put-state t m st (getD b 0 0) (drop 1 b) cl;
-      }
-
-  definition-taken : definitionNumber b (t .n) (t .defs) (m .named) ≡ 0 → Taken (tableOf t) (aDefinition b) (define t b) (withRoot (getD b 1 0) m)
-  definition-taken e =
-      let cl = definition-clear b (t .n) (t .defs) (m .named) e in
-      let q = sym (definition-rows (t .n) (t .defs) (t .counts) m (tableOf t) shows b) ∙ e in
-      record {
-        shown = λ place rest go. none-holds (definitionRows (tableOf t) b) place _ q ∙ ap go (sym (define-shown t m st b cl));
-        state = define-state t m st b cl;
-      }
-
-  taken : numberIn t m tag b ≡ 0 → (tag ≡ 3 → ⊥) → Taken (tableOf t) (entryOf tag b) (added t tag b) (addedMarks t m tag b)
-  unfolding fieldNumber added addedMarks
-  taken e d = rw (entry-is tag b) (go (eqb tag 2) (eqb tag 3) (eqb tag 1) (eqb (length b) 0) refl e)
-    where
-      go : (f g h i : Bool) → eqb tag 3 ≡ g
-          → cond f (definitionNumber b (t .n) (t .defs) (m .named)) (cond g (mainNumber b (t .n) (m .named)) (cond h (cond i 1 (n-of t m tag b)) 1)) ≡ 0
-          → Taken (tableOf t) (cond f (aDefinition b) (cond g (aMain b) (cond h (cond i unknown (aNode (getD b 0 0) (drop 1 b))) unknown))) (cond f (define t b) (addNode t b)) (cond f (withRoot (getD b 1 0) m) (withNode (nodeFrom (t .counts) b) m))
-      go true g h i q e = definition-taken e
-      go false true h i q e = absurd (d (eqb-true tag 3 q))
-      go false false true true q e = absurd (omega arith)
-      go false false true false q e = node-taken e
-      go false false false i q e = absurd (omega arith)
-
-  -- the main node, where it is not refused
   main-number : numberIn t m tag b ≡ 0 → tag ≡ 3 → mainNumber b (t .n) (m .named) ≡ 0
   unfolding fieldNumber
   main-number e q = rw q at e
 
-  main-taken : numberIn t m tag b ≡ 0 → tag ≡ 3 → (place : ℕ) (rest : Fields) (go : program.Table → Loaded)
+  -- the same of the field's entry
+  node-entry : tag ≡ 1 → eqb (length b) 0 ≡ false → entryOf tag b ≡ aNode (getD b 0 0) (drop 1 b)
+  node-entry q e = entry-is tag b ∙ rw (q, e)
+
+  definition-entry : tag ≡ 2 → entryOf tag b ≡ aDefinition b
+  definition-entry q = entry-is tag b ∙ rw q
+
+  main-entry : tag ≡ 3 → entryOf tag b ≡ aMain b
+  main-entry q = entry-is tag b ∙ rw q
+
+module _ (t : Table) (m : Marks) (st : State t m) (tag : ℕ) (b : List ℕ) (e : numberIn t m tag b ≡ 0) where
+  shows : Shows (t .n) (t .defs) (t .counts) m (tableOf t)
+  shows = shows-of t m st
+
+  node-taken : tag ≡ 1 → Taken t (entryOf tag b) (addNode t b) (withNode (nodeFrom (t .counts) b) m)
+  unfolding addNode put
+  node-taken q =
+      let k = node-number t m tag b e q in
+      let cl = node-clear (getD b 0 0) (drop 1 b) (t .n) (t .defs) _ m (k .1) in
+      let z = sym (node-rows (t .n) (t .defs) (t .counts) m (tableOf t) shows (getD b 0 0) (drop 1 b)) ∙ k .1 in
+      record {
+        shown = λ place rest go. ap (λ (en : Entry). onEntry place (tableOf t) en rest go) (node-entry t m tag b q (k .0))
+            ∙ none-holds (nodeRows (tableOf t) (getD b 0 0) (drop 1 b)) place _ z
+            ∙ ap go (sym (put-shown t m st (getD b 0 0) (drop 1 b) cl));
+        more = omega arith;
+        state = put-state t m st (getD b 0 0) (drop 1 b) cl;
+      }
+
+  definition-taken : (tag ≡ 1 → ⊥) → (tag ≡ 3 → ⊥) → Taken t (entryOf tag b) (define t b) (withRoot (getD b 1 0) m)
+  unfolding define
+  definition-taken p d =
+      let k = definition-number t m tag b e p d in
+      let cl = definition-clear b (t .n) (t .defs) (m .named) (k .1) in
+      let z = sym (definition-rows (t .n) (t .defs) (t .counts) m (tableOf t) shows b) ∙ k .1 in
+      record {
+        shown = λ place rest go. ap (λ (en : Entry). onEntry place (tableOf t) en rest go) (definition-entry t m tag b (k .0))
+            ∙ none-holds (definitionRows (tableOf t) b) place _ z
+            ∙ ap go (sym (define-shown t m st b cl));
+        more = omega arith;
+        state = define-state t m st b cl;
+      }
+
+  main-taken : tag ≡ 3 → (place : ℕ) (rest : Fields) (go : program.Table → Loaded)
       → onEntry place (tableOf t) (entryOf tag b) rest go ≡ ended (tableOf t) (getD b 0 0) rest
-  main-taken e q place rest go =
-      let k : byTag tag b ≡ aMain b = rw q in
-      ap (λ (en : Entry). onEntry place (tableOf t) en rest go) (entry-is tag b ∙ k)
-      ∙ none-holds (mainRows (tableOf t) b) place _ (sym (main-rows (t .n) (t .defs) (t .counts) m (tableOf t) shows b) ∙ main-number e q)
+  main-taken q place rest go =
+      ap (λ (en : Entry). onEntry place (tableOf t) en rest go) (main-entry t m tag b q)
+      ∙ none-holds (mainRows (tableOf t) b) place _ (sym (main-rows (t .n) (t .defs) (t .counts) m (tableOf t) shows b) ∙ main-number t m tag b e q)
 
 -- no byte is left
 is-end : (k : ℕ) (s : List ℕ) → 0 < k → isEnd (fieldsIn k s) ≡ eqb (length s) 0
@@ -227,44 +234,16 @@ loads-as : {s : List ℕ} {e f : ℕ} {t u : Table} → f ≡ e → u ≡ t → 
     → Loads s (record { number = f; place = 0; table = u })
 loads-as p q l = rw (p, q) l
 
-module _ (t : Table) (tag : ℕ) (b : List ℕ) where
-  define-is : (first second : ℕ) → tag ≡ 2 → first ≡ getD b 0 0 → second ≡ getD b 1 0
-      → tableIn (t .nodes) (set (t .counts) (t .defs) first) (set (t .bodies) (t .defs) second) (t .n) (t .defs + 1) (t .main) ≡ added t tag b
-  unfolding added define
-  define-is first second q e f = rw (q, e, f)
+module _ (t : Table) (b : List ℕ) where
+  define-is : (first second : ℕ) → first ≡ getD b 0 0 → second ≡ getD b 1 0
+      → tableIn (t .nodes) (set (t .counts) (t .defs) first) (set (t .bodies) (t .defs) second) (t .n) (t .defs + 1) (t .main) ≡ define t b
+  unfolding define
+  define-is first second e f = rw (e, f)
 
-  node-is : (x : Node) → tag ≡ 1 → x ≡ nodeFrom (t .counts) b
-      → tableIn (set (t .nodes) (t .n) x) (t .counts) (t .bodies) (t .n + 1) (t .defs) (t .main) ≡ added t tag b
-  unfolding added addNode put
-  node-is x q e = rw (q, e)
-
-module _ (t : Table) (m : Marks) (tag : ℕ) (b : List ℕ) where
-  define-marks : tag ≡ 2 → withRoot (getD b 1 0) m ≡ addedMarks t m tag b
-  unfolding addedMarks
-  define-marks q = rw q
-
-  node-marks : tag ≡ 1 → withNode (nodeFrom (t .counts) b) m ≡ addedMarks t m tag b
-  unfolding addedMarks
-  node-marks q = rw q
-
--- a whole field that is not refused
-record SeenOf (s : List ℕ) (at n defs : ℕ) (counts : List ℕ) (m : Marks) (r : Step) (m′ : Marks) : Type 0 where
-  pub start : ℕ
-  pub len : ℕ
-  pub b : List ℕ
-  pub field : fieldAt s at ≡ Whole (r .tag) start len (r .next)
-  pub body : b ≡ take (r .next - start) (drop start s)
-  pub number : r .number ≡ fieldNumber (r .tag) b n defs counts m
-  pub gives : Gives counts b m r m′
-
--- one node or definition more is one field more
-one-more : (t : Table) (tag : ℕ) (b : List ℕ) → added t tag b .n + added t tag b .defs ≡ suc (t .n + t .defs)
-unfolding added define addNode put
-one-more t tag b = go (eqb tag 2)
-  where
-    go : (f : Bool) → cond f (define t b) (addNode t b) .n + cond f (define t b) (addNode t b) .defs ≡ suc (t .n + t .defs)
-    go true = omega arith
-    go false = omega arith
+  node-is : (x : Node) → x ≡ nodeFrom (t .counts) b
+      → tableIn (set (t .nodes) (t .n) x) (t .counts) (t .bodies) (t .n + 1) (t .defs) (t .main) ≡ addNode t b
+  unfolding addNode put
+  node-is x e = rw e
 
 module _ (s : List ℕ) (t : Table) (m : Marks) (at : ℕ) (g : Going s t m at) where
   abbrev fields : ℕ
@@ -279,12 +258,18 @@ module _ (s : List ℕ) (t : Table) (m : Marks) (at : ℕ) (g : Going s t m at) 
   end-turn h = is-refused s 6 0 emptyTable (turn End (sym (at-end s at h)) .same) (λ e. omega arith)
 
   -- a field that is not whole
-  broken-turn : (fieldAt s at ≡ Cut) ⊎ (fieldAt s at ≡ End) → at < length s → Loads s (refusal 1 fields)
+  pub broken-turn : {f : Field} → f ≡ fieldAt s at → (tagOf (declared enum) f ≡ 1) ⊎ (tagOf (declared enum) f ≡ 2) → at < length s → Loads s (refusal 1 fields)
   unfolding loadFrom
-  broken-turn (inl q) h = is-refused s 1 fields emptyTable (turn Cut (sym q) .same) (λ e. omega arith)
-  broken-turn (inr q) h = absurd (before-end s at h q)
+  broken-turn {f} e k h = go f k e
+    where
+      go : (f : Field) → (tagOf (declared enum) f ≡ 1) ⊎ (tagOf (declared enum) f ≡ 2) → f ≡ fieldAt s at → Loads s (refusal 1 fields)
+      go Cut k e = is-refused s 1 fields emptyTable (turn Cut e .same) (λ e. omega arith)
+      go End k e = absurd (before-end s at h (sym e))
+      go (Whole tag start len next) (inl k) e = absurd (eqb-false 0 1 refl k)
+      go (Whole tag start len next) (inr k) e = absurd (eqb-false 0 2 refl k)
 
-  module _ (tag start len next : ℕ) (b : List ℕ) (e : ℕ) (w : fieldAt s at ≡ Whole tag start len next) (p : b ≡ take (next - start) (drop start s)) (q : e ≡ numberIn t m tag b) where
+  -- a whole field
+  module _ (tag start len next : ℕ) (b : List ℕ) (w : fieldAt s at ≡ Whole tag start len next) (p : b ≡ take (next - start) (drop start s)) where
     r : Turn s t at fields (Whole tag start len next)
     r = turn (Whole tag start len next) (sym w)
 
@@ -299,98 +284,82 @@ module _ (s : List ℕ) (t : Table) (m : Marks) (at : ℕ) (g : Going s t m at) 
         let body : take len (drop start s) ≡ b = ap (λ (i : ℕ). take i (drop start s)) (sym z) ∙ sym p in
         r .same ∙ ap (λ (d : List ℕ). onEntry fields (tableOf t) (entryOf tag d) rest (λ u. loadFrom (suc fields) u rest)) body
 
-    -- a whole field that is refused
-    stop-turn : (e ≡ 0 → ⊥) → Loads s (refusal e fields)
-    stop-turn h =
+    -- that is refused
+    stop-turn : (e : ℕ) → e ≡ numberIn t m tag b → (e ≡ 0 → ⊥) → Loads s (refusal e fields)
+    stop-turn e q h =
         is-refused s e fields emptyTable
         (entry
         ∙ stopped (tableOf t) (entryOf tag b) fields e rest _ (q ∙ field-rows (t .n) (t .defs) (t .counts) m (tableOf t) (shows-of t m (g .state)) tag b) h)
         h
 
-    -- a whole field that is taken
-    next-turn : e ≡ 0 → (tag ≡ 3 → ⊥) → Going s (added t tag b) (addedMarks t m tag b) next
-    next-turn z d =
-        let k = taken t m (g .state) tag b (sym q ∙ z) d in
+    -- that is taken
+    next-turn : (u : Table) (m′ : Marks) → Taken t (entryOf tag b) u m′ → Going s u m′ next
+    next-turn u m′ k =
         let pl = placed s at w in
         let en = r .enough in
         record {
           fuel = r .fuel;
           enough = omega arith;
           state = k .state;
-          same = entry ∙ k .shown fields rest _ ∙ ap (λ (i : ℕ). loadFrom i (tableOf (added t tag b)) rest) (sym (one-more t tag b));
+          same = entry ∙ k .shown fields rest _ ∙ ap (λ (i : ℕ). loadFrom i (tableOf u) rest) (sym (k .more));
         }
 
     -- the main node
-    main-turn : e ≡ 0 → tag ≡ 3 → (main left : ℕ) → main ≡ getD b 0 0 → left ≡ length s - next
+    main-turn : numberIn t m tag b ≡ 0 → tag ≡ 3 → (main left : ℕ) → main ≡ getD b 0 0 → left ≡ length s - next
         → Loads s (record { number = endNumber left (t .n) (set (m .named) main true); place = 0; table = withMain t main })
-    main-turn z d main left f h =
-        let o : numberIn t m tag b ≡ 0 = sym q ∙ z in
+    main-turn o d main left f h =
         let pl = placed s at w in
         let en = r .enough in
-        let a : main < t .n = rw f (main-clear b (t .n) (m .named) (main-number t m (g .state) tag b o d)) in
+        let a : main < t .n = rw f (main-clear b (t .n) (m .named) (main-number t m tag b o d)) in
         let i : isEnd rest ≡ eqb left 0 = is-end (r .fuel) (drop next s) (omega arith) ∙ ap (λ (k : ℕ). eqb k 0) (length-drop next s ∙ sym h) in
         let num = end-rows t m (g .state) main left rest a i in
         let l : program.load s ≡ ended (tableOf t) main rest =
         entry ∙ main-taken t m (g .state) tag b o d fields rest _ ∙ ap (λ (k : ℕ). ended (tableOf t) k rest) (sym f) in
         ended-loads s t main (endNumber left (t .n) (set (m .named) main true)) (rw num l) a (g .state .good)
 
-  -- ---- what the code saw there
-  module _ (r : Step) {m′ : Marks} (rd : Reads s at (t .n) (t .defs) (t .counts) m r m′) where
-    pub refuses : at < length s → (r .number ≡ 0 → ⊥) → Loads s (refusal (r .number) (r .place))
-    refuses h z = rw (rd .place) (go (rd .sees))
-      where
-        go : Sees s at (t .n) (t .defs) (t .counts) m r m′ → Loads s (refusal (r .number) fields)
-        go (broken e f) = rw e (broken-turn f h)
-        go (whole start len b w p q k) = stop-turn (r .tag) start len (r .next) b (r .number) w p q z
+    -- ---- what the code read there: a node
+    module _ {x : Read} {m′ : Marks} (one : tag ≡ 1) (h : ReadsNode b (t .n) (t .defs) (t .counts) m x m′) where
+      node-is-number : x .number ≡ numberIn t m tag b
+      unfolding fieldNumber
+      node-is-number = h .number ∙ ap (λ (i : ℕ). numberIn t m i b) (sym one)
 
-    module _ (z : r .number ≡ 0) where
-      abbrev Seen : Type 0
-      Seen = SeenOf s at (t .n) (t .defs) (t .counts) m r m′
+      pub node-refused : (x .number ≡ 0 → ⊥) → Loads s (refusal (x .number) fields)
+      node-refused z = stop-turn (x .number) node-is-number z
 
-      seen : Seen
-      seen = go (rd .sees)
-        where
-          go : Sees s at (t .n) (t .defs) (t .counts) m r m′ → Seen
-          go (broken e f) = absurd (omega arith)
-          go (whole start len b w p q k) = record { start = start; len = len; b = b; field = w; body = p; number = q; gives = k z }
-
-      pub where-next : (at < r .next) × (r .next ≤ length s)
-      where-next = let p = placed s at (seen .field) in (omega arith, omega arith)
-
-      o : numberIn t m (r .tag) (seen .b) ≡ 0
-      o = sym (seen .number) ∙ z
-
-      goes : (r .tag ≡ 3 → ⊥) → Going s (added t (r .tag) (seen .b)) (addedMarks t m (r .tag) (seen .b)) (r .next)
-      goes d = next-turn (r .tag) (seen .start) (seen .len) (r .next) (seen .b) (r .number) (seen .field) (seen .body) (seen .number) z d
-
-      pub defs-room : r .tag ≡ 2 → t .defs < 32
-      defs-room q = room-definition t m (r .tag) (seen .b) o q
-
-      pub define-turn : r .tag ≡ 2
-          → Going s (tableIn (t .nodes) (set (t .counts) (t .defs) (r .first)) (set (t .bodies) (t .defs) (r .second)) (t .n) (t .defs + 1) (t .main)) m′ (r .next)
-      define-turn q =
-          let d : r .tag ≡ 1 → ⊥ = λ e. omega arith in
-          going-as (define-is t (r .tag) (seen .b) (r .first) (r .second) q (seen .gives .first d) (seen .gives .second d))
-          (seen .gives .bodyMarks q ∙ define-marks t m (r .tag) (seen .b) q)
-          (goes (λ e. omega arith))
-
-      module _ (two : r .tag ≡ 2 → ⊥) (three : r .tag ≡ 3 → ⊥) where
-        one : r .tag ≡ 1
-        one = is-node t m (r .tag) (seen .b) o two three
+      module _ (z : x .number ≡ 0) where
+        node-ok : numberIn t m tag b ≡ 0
+        node-ok = sym node-is-number ∙ z
 
         pub nodes-room : t .n < 256
-        nodes-room = room-node t m (r .tag) (seen .b) o two three
+        nodes-room = node-clear (getD b 0 0) (drop 1 b) (t .n) (t .defs) _ m (node-number t m tag b node-ok one .1) .room
 
-        pub node-turn : Going s (tableIn (set (t .nodes) (t .n) (r .node)) (t .counts) (t .bodies) (t .n + 1) (t .defs) (t .main)) m′ (r .next)
-        node-turn =
-            going-as (node-is t (r .tag) (seen .b) (r .node) one (seen .gives .node one))
-            (seen .gives .nodeMarks one ∙ node-marks t m (r .tag) (seen .b) one)
-            (goes three)
+        pub node-turn : Going s (tableIn (set (t .nodes) (t .n) (x .node)) (t .counts) (t .bodies) (t .n + 1) (t .defs) (t .main)) m′ next
+        node-turn = going-as (node-is t b (x .node) (h .node z)) (h .marks z) (next-turn _ _ (node-taken t m (g .state) tag b node-ok one))
 
-      pub ends-turn : r .tag ≡ 3 → {e : ℕ} (left : ℕ) → left ≡ length s - r .next → e ≡ endNumber left (t .n) (m′ .named)
-          → Loads s (record { number = e; place = 0; table = withMain t (r .first) })
-      ends-turn q left h f =
-          let k : m′ .named ≡ set (m .named) (getD (seen .b) 0 0) true = ap (λ (x : Marks). x .named) (seen .gives .mainMarks q) in
-          let g : r .first ≡ getD (seen .b) 0 0 = seen .gives .first (λ e. omega arith) in
-          loads-as (f ∙ ap (endNumber left (t .n)) k) (ap (withMain t) g)
-          (main-turn (r .tag) (seen .start) (seen .len) (r .next) (seen .b) (r .number) (seen .field) (seen .body) (seen .number) z q (getD (seen .b) 0 0) left refl h)
+    -- a definition, the main node, or neither
+    module _ {e : ℕ} {named′ : List Bool} (d : tag ≡ 1 → ⊥) (h : TakesRoot tag b (t .n) (t .defs) (m .named) e named′) where
+      root-is-number : e ≡ numberIn t m tag b
+      root-is-number = h .number (t .counts) (m .slots) (m .kept)
+
+      pub root-refused : (e ≡ 0 → ⊥) → Loads s (refusal e fields)
+      root-refused z = stop-turn e root-is-number z
+
+      module _ (z : e ≡ 0) where
+        root-ok : numberIn t m tag b ≡ 0
+        root-ok = sym root-is-number ∙ z
+
+        pub ends-turn : tag ≡ 3 → {main : ℕ} → main ≡ getD b 0 0
+            → Loads s (record { number = endNumber (length s - next) (t .n) named′; place = 0; table = withMain t main })
+        ends-turn q {main} f =
+            loads-as (ap (endNumber (length s - next) (t .n)) (h .main z q)) (ap (withMain t) f) (main-turn root-ok q (getD b 0 0) _ refl refl)
+
+        module _ (three : tag ≡ 3 → ⊥) where
+          pub defs-room : t .defs < 32
+          defs-room = definition-clear b (t .n) (t .defs) (m .named) (definition-number t m tag b root-ok d three .1) .room
+
+          pub define-turn : {first second : ℕ} → first ≡ getD b 0 0 → second ≡ getD b 1 0
+              → Going s (tableIn (t .nodes) (set (t .counts) (t .defs) first) (set (t .bodies) (t .defs) second) (t .n) (t .defs + 1) (t .main)) (marksOf named′ (m .slots) (m .kept)) next
+          define-turn {first} {second} f q =
+              going-as (define-is t b first second f q)
+              (ap (λ (l : List Bool). marksOf l (m .slots) (m .kept)) (h .definition z (definition-number t m tag b root-ok d three .0)))
+              (next-turn _ _ (definition-taken t m (g .state) tag b root-ok d three))

@@ -1,11 +1,8 @@
 // Loads a program table: the fields of its bytes one after the other, each refused or taken into a table by value.
 ghost use mathlib.Core.Path.{_≡_};
-ghost use Prim.Native.Nat.{ℕ, _≤_, _<_};
-ghost use lib.ListN.{length, getD};
-ghost use Rattle.nodes.specs.Body.{noNode};
-ghost use Rattle.rows.specs.Marks.{marksOf};
+ghost use Prim.Native.Nat.{_≤_};
 ghost use Rattle.load.specs.Loads.{Loads};
-ghost use Rattle.load.specs.Steps.{tableIn, refusal, endNumber, Reads};
+ghost use Rattle.load.specs.Steps.{tableIn, refusal, endNumber};
 
 // A call or fold by definition d has counts[d] parameters and the body bodies[d].
 pub struct Table {
@@ -22,85 +19,6 @@ pub struct Outcome {
     pub number: u32,
     pub place: usize,
     pub table: Table,
-}
-
-// A field that was read. Number 0: its tag, its node or its first two bytes, and where the next field begins. Else the
-// refusal and its place.
-struct Step {
-    number: u32,
-    place: usize,
-    next: usize,
-    tag: u8,
-    first: u8,
-    second: u8,
-    node: nodes::Node,
-}
-
-// A field that is a node.
-fn node_step(number: u32, place: usize, next: usize, x: nodes::Node) -> Step
-    ensures { λ r. ⌜ r ≡ record { number = number; place = place; next = next; tag = 1; first = 0; second = 0; node = x } ⌝ }
-{
-    Step {
-        number: number,
-        place: place,
-        next: next,
-        tag: 1,
-        first: 0,
-        second: 0,
-        node: x,
-    }
-}
-
-// A field that is none.
-fn root_step(number: u32, place: usize, next: usize, tag: u8, first: u8, second: u8) -> Step
-    ensures { λ r. ⌜ r ≡ record { number = number; place = place; next = next; tag = tag; first = first; second = second; node = noNode } ⌝ }
-{
-    Step {
-        number: number,
-        place: place,
-        next: next,
-        tag: tag,
-        first: first,
-        second: second,
-        node: nodes::none(),
-    }
-}
-
-// The field at `at`, in a table of n nodes and defs definitions. What it names is marked. Its place is how many whole
-// fields stand before it: each of them gave a node or a definition.
-fn read(
-    s: &[u8],
-    at: usize,
-    n: usize,
-    defs: usize,
-    counts: &[u8; 256],
-    named: &mut [bool; 256],
-    slots: &mut [bool; 256],
-    kept: &mut [bool; 256],
-) -> Step
-    requires { ⌜ (length (now named) ≡ 256) × (length (now slots) ≡ 256) × (length (now kept) ≡ 256) × ((d : ℕ) → d < defs → getD (now counts) d 0 ≤ 4) ⌝ }
-    requires { ⌜ (n ≤ 256) × (defs ≤ 32) ⌝ }
-    ensures { λ r. ⌜ Reads (now (s .entry)) at n defs (now (counts .entry)) (marksOf (now (named .entry)) (now (slots .entry)) (now (kept .entry))) r (marksOf (now (named .exit)) (now (slots .exit)) (now (kept .exit))) ⌝ }
-{
-    let place = n + defs;
-    let f = reader::read_field(s, at);
-    let reader::Field::Whole {
-        tag,
-        start,
-        len: _,
-        next,
-    } = f
-    else {
-        return root_step(1, place, 0, 0, 0, 0);
-    };
-    let b = &s[start..next];
-    if tag == 1 {
-        let r = rows::read_node(b, n, defs, counts, named, slots, kept);
-        let x = r.node;
-        return node_step(r.number, place, next, x);
-    }
-    let e = rows::root_number(tag, b, n, defs, named);
-    root_step(e, place, next, tag, nodes::get(b, 0), nodes::get(b, 1))
 }
 
 // The refusal at the end of the table, behind a main node: bytes are left, or a node has no name.
@@ -150,7 +68,20 @@ fn refuse(number: u32, place: usize) -> Outcome
     }
 }
 
-// The program table that s holds, or its refusal.
+// The end of the table t, behind its main node, with so many bytes left.
+fn ended(left: usize, named: &[bool; 256], t: Table) -> Outcome
+    requires { ⌜ t .n ≤ 256 ⌝ }
+    ensures { λ r. ⌜ r ≡ record { number = endNumber left (t .n) (now (named .entry)); place = 0; table = t } ⌝ }
+{
+    Outcome {
+        number: end_number(left, t.n, named),
+        place: 0,
+        table: t,
+    }
+}
+
+// The program table that s holds, or its refusal. A refusal's place is how many whole fields stand before it: each of
+// them gave a node or a definition.
 pub fn load(s: &[u8]) -> Outcome
     ensures { λ r. ⌜ Loads (now (s .entry)) r ⌝ }
 {
@@ -165,29 +96,41 @@ pub fn load(s: &[u8]) -> Outcome
     let mut defs: usize = 0;
     let mut at: usize = 0;
     while at < s.len() {
-        let f = read(s, at, n, defs, &counts, &mut named, &mut slots, &mut kept);
-        if f.number != 0 {
-            return refuse(f.number, f.place);
-        }
-        at = f.next;
-        if f.tag == 3 {
-            let e = end_number(s.len() - at, n, &named);
-            let t = hold(nodes, counts, bodies, n, defs, f.first);
-            return Outcome {
-                number: e,
-                place: 0,
-                table: t,
-            };
-        }
-        if f.tag == 2 {
-            counts[defs] = f.first;
-            bodies[defs] = f.second;
-            defs += 1;
+        let place = n + defs;
+        let f = reader::read_field(s, at);
+        let reader::Field::Whole {
+            tag,
+            start,
+            len: _,
+            next,
+        } = f
+        else {
+            return refuse(1, place);
+        };
+        let b = &s[start..next];
+        at = next;
+        if tag == 1 {
+            let r = rows::read_node(b, n, defs, &counts, &mut named, &mut slots, &mut kept);
+            if r.number != 0 {
+                return refuse(r.number, place);
+            }
+            let x = r.node;
+            nodes[n] = x;
+            n += 1;
             continue;
         }
-        let x = f.node;
-        nodes[n] = x;
-        n += 1;
+        let e = rows::root_number(tag, b, n, defs, &mut named);
+        if e != 0 {
+            return refuse(e, place);
+        }
+        let first = nodes::get(b, 0);
+        if tag == 3 {
+            let t = hold(nodes, counts, bodies, n, defs, first);
+            return ended(s.len() - at, &named, t);
+        }
+        counts[defs] = first;
+        bodies[defs] = nodes::get(b, 1);
+        defs += 1;
     }
     refuse(6, 0)
 }

@@ -11,6 +11,7 @@ use Rattle.program.specs.Table.{beyond}
 use Rattle.nodes.specs.declared.Node.{Node}
 use Rattle.nodes.specs.Values.{childrenOf}
 use Rattle.marks.specs.Marked.{takenIn, marked, markIf, Takes, TakesAll}
+use Rattle.marks.proofs.Rows.{none-taken}
 
 no-more : (i a : ℕ) (l : List ℕ) {m m′ : List Bool} {s : Bool} → i ≡ 0 → TakesAll (take (i - 1) l) m s m′ → TakesAll (take i (a ∷ l)) m s m′
 no-more zero a l z w = w
@@ -56,10 +57,9 @@ module _ (j k i : ℕ) (h : i ≡ k - j) where
             record { was = w .was ∙ sym z; marks = λ x. w .marks x ∙ sym y; long = w .long }
         go false q f g = no-more i a l (absent q) (rw g at w)
 
-none-taken : (i : ℕ) (m : List Bool) → length m ≡ 256 → TakesAll (take i []) m false m
-unfolding takenIn marked
-none-taken zero m h = record { was = refl; marks = λ _. refl; long = h }
-none-taken (suc i) m h = record { was = refl; marks = λ _. refl; long = h }
+none-left : (i : ℕ) (m : List Bool) → length m ≡ 256 → TakesAll (take i []) m false m
+none-left zero m h = none-taken h
+none-left (suc i) m h = none-taken h
 
 -- the last number of the four
 taken-last : (j k i a : ℕ) {m m′ : List Bool} {r : Bool} → i ≡ k - j → Takes (ltb j k) a m r m′ → TakesAll (take i (a ∷ [])) m r m′
@@ -67,7 +67,7 @@ taken-last j k i a {m} {m′} {r} h t = go r refl
   where
     go : (b : Bool) → r ≡ b → TakesAll (take i (a ∷ [])) m r m′
     go true e = rw e (taken-here j k i h [] t e)
-    go false e = rw e (taken-after j k i h [] t e (none-taken (i - 1) m′ (t .long)))
+    go false e = rw e (taken-after j k i h [] t e (none-left (i - 1) m′ (t .long)))
 
 all-beyond : (n k a b c d : ℕ)
     → beyond n (take k (a ∷ b ∷ c ∷ d ∷ [])) ≡ (ltb 0 k && leb n a || (ltb 1 k && leb n b || (ltb 2 k && leb n c || (ltb 3 k && leb n d))))
@@ -88,10 +88,6 @@ all-beyond n k a b c d =
     last (suc i) false = refl
 
 -- ---- of a node: each child in its turn
-pub no-child : (n : ℕ) (x : Node) → x .kids ≡ 0 → false ≡ beyond n (childrenOf x)
-unfolding beyond
-no-child n x e = rw e
-
 module _ (n : ℕ) (x : Node) {r : Bool} (p : r ≡ (ltb 0 (x .kids) && leb n (x .a))) where
   is : beyond n (childrenOf x)
       ≡ (ltb 0 (x .kids) && leb n (x .a) || (ltb 1 (x .kids) && leb n (x .b) || (ltb 2 (x .kids) && leb n (x .c) || (ltb 3 (x .kids) && leb n (x .d)))))

@@ -4,6 +4,7 @@ use mathlib.Core.Bool.{Bool, true, false, not, cond, _&&_, _||_}
 use mathlib.Core.List.{List, [], _∷_}
 use Prim.Native.Nat.{ℕ, zero, suc}
 use lib.ListN.{length, getD, set}
+use Rattle.program.specs.Table.{beyond}
 
 -- some number is marked or stands twice
 unfoldable pub takenIn : List Bool → List ℕ → Bool
@@ -33,3 +34,8 @@ pub record TakesAll (ks : List ℕ) (m : List Bool) (r : Bool) (m′ : List Bool
   pub was : r ≡ takenIn m ks
   pub marks : r ≡ false → m′ ≡ marked m ks
   pub long : length m′ ≡ 256
+
+-- children that are looked for among n nodes and marked: r is the refusal, and named′ are the marks where there is none
+pub record TakesKids (ks : List ℕ) (n : ℕ) (named : List Bool) (r : ℕ) (named′ : List Bool) : Type 0 where
+  pub number : r ≡ cond (beyond n ks) 4 (cond (takenIn named ks) 5 0)
+  pub marks : r ≡ 0 → named′ ≡ marked named ks

@@ -1,12 +1,13 @@
 // The marks of what is given and named already.
 ghost use mathlib.Core.Path.{_≡_};
 ghost use mathlib.Core.Bool.{_&&_};
+ghost use mathlib.Core.List.{[], _∷_};
 ghost use Prim.Native.Nat.{_≤_};
 ghost use lib.ListN.{length};
 ghost use lib.Dec.{leb};
 ghost use Rattle.program.specs.Table.{beyond};
 ghost use Rattle.nodes.specs.Values.{childrenOf};
-ghost use Rattle.marks.specs.Marked.{marked, markIf, unmarked, Takes, TakesAll};
+ghost use Rattle.marks.specs.Marked.{unmarked, Takes, TakesAll, TakesKids};
 
 // Whether a child that is there is not below n.
 fn beyond_at(there: bool, k: u8, n: usize) -> bool
@@ -22,9 +23,6 @@ fn beyond_at(there: bool, k: u8, n: usize) -> bool
 pub fn any_beyond(x: nodes::Node, n: usize) -> bool
     ensures { λ r. ⌜ r ≡ beyond n (childrenOf x) ⌝ }
 {
-    if x.kids == 0 {
-        return false;
-    }
     if beyond_at(0 < x.kids, x.a, n) {
         return true;
     }
@@ -70,29 +68,78 @@ pub fn take_children(x: nodes::Node, m: &mut [bool; 256]) -> bool
     take(3 < x.kids, x.d, m)
 }
 
-// The marks with those of the numbers set.
-pub fn mark(ks: &[u8], marks: [bool; 256]) -> [bool; 256]
-    ensures { λ r. ⌜ r ≡ marked marks (now (ks .entry)) ⌝ }
+// The rows of one child, which is marked.
+pub fn one_child(a: u8, n: usize, named: &mut [bool; 256]) -> u32
+    requires { ⌜ length (now named) ≡ 256 ⌝ }
+    ensures { λ r. ⌜ TakesKids (a ∷ []) n (now (named .entry)) r (now (named .exit)) ⌝ }
 {
-    let mut all = marks;
-    let mut i: usize = 0;
-    while i < ks.len() {
-        let k = nodes::get(ks, i) as usize;
-        all[k] = true;
-        i += 1;
+    if n <= a as usize {
+        return 4; // not yet given
     }
-    all
+    if take(true, a, named) {
+        return 5; // taken already
+    }
+    0
 }
 
-// The marks, with one set where `on` says so.
-pub fn mark_if(on: bool, k: u8, marks: [bool; 256]) -> [bool; 256]
-    ensures { λ r. ⌜ r ≡ markIf on k marks ⌝ }
+// The rows of two children.
+pub fn two_children(a: u8, b: u8, n: usize, named: &mut [bool; 256]) -> u32
+    requires { ⌜ length (now named) ≡ 256 ⌝ }
+    ensures { λ r. ⌜ TakesKids (a ∷ b ∷ []) n (now (named .entry)) r (now (named .exit)) ⌝ }
 {
-    let mut m = marks;
-    if on {
-        m[k as usize] = true;
+    if n <= a as usize {
+        return 4;
     }
-    m
+    if n <= b as usize {
+        return 4;
+    }
+    if take(true, a, named) {
+        return 5;
+    }
+    if take(true, b, named) {
+        return 5;
+    }
+    0
+}
+
+// The rows of three children.
+pub fn three_children(a: u8, b: u8, c: u8, n: usize, named: &mut [bool; 256]) -> u32
+    requires { ⌜ length (now named) ≡ 256 ⌝ }
+    ensures { λ r. ⌜ TakesKids (a ∷ b ∷ c ∷ []) n (now (named .entry)) r (now (named .exit)) ⌝ }
+{
+    if n <= a as usize {
+        return 4;
+    }
+    if n <= b as usize {
+        return 4;
+    }
+    if n <= c as usize {
+        return 4;
+    }
+    if take(true, a, named) {
+        return 5;
+    }
+    if take(true, b, named) {
+        return 5;
+    }
+    if take(true, c, named) {
+        return 5;
+    }
+    0
+}
+
+// The rows of a node's children, which are marked.
+pub fn children(x: nodes::Node, n: usize, named: &mut [bool; 256]) -> u32
+    requires { ⌜ length (now named) ≡ 256 ⌝ }
+    ensures { λ r. ⌜ TakesKids (childrenOf x) n (now (named .entry)) r (now (named .exit)) ⌝ }
+{
+    if any_beyond(x, n) {
+        return 4;
+    }
+    if take_children(x, named) {
+        return 5;
+    }
+    0
 }
 
 // Whether some mark below n is not set.

@@ -11,11 +11,11 @@ use borrow.Author.Tests.{eqb-true, eqb-false}
 use Rattle.masks.specs.Masks.{hasBit}
 
 -- ---- what a test says of each number below n, by computing it
-abbrev allBelow : (ℕ → Bool) → ℕ → Bool
+abbrev pub allBelow : (ℕ → Bool) → ℕ → Bool
 allBelow p zero = true
 allBelow p (suc n) = cond (p n) (allBelow p n) false
 
-all-below : (p : ℕ → Bool) (n : ℕ) → allBelow p n ≡ true → (k : ℕ) → k < n → p k ≡ true
+pub all-below : (p : ℕ → Bool) (n : ℕ) → allBelow p n ≡ true → (k : ℕ) → k < n → p k ≡ true
 all-below p zero e k h = absurd (omega arith)
 all-below p (suc n) e k h = go (p n) refl e (eqb k n) refl (all-below p n)
   where

@@ -7,6 +7,7 @@ use native.Mathlib.Omega.{arith}
 use lib.ListN.{length, getD, set, replicate, length-set, length-replicate, getD-replicate, List·getD-eq-default}
 use lib.Seq.{getD-set-other}
 use lib.Dec.{eqb, ltb}
+use lib.Bits.{bitOr, or-zero-l, or-zero-r}
 use borrow.Author.Count.{below-none}
 use borrow.Author.Tests.{ltb-true, ltb-false}
 use Rattle.program.specs.Table.{among}
@@ -126,3 +127,8 @@ leaf-mask us w (leaf-0 h) = rw h
 leaf-mask us w (leaf-1 h) = rw h
 leaf-mask us w (leaf-2 h) = rw h
 leaf-mask us w (leaf-17 h) = rw h
+
+-- ---- an operator has those of its two sides
+pub operator-mask : (us : List ℕ) (w : ℕ) → form w ≡ 3 → bitOr (partMask us w 0) (partMask us w 1) ≡ maskOf us w
+unfolding maskOf width
+operator-mask us w h = rw h (simp (or-zero-l, or-zero-r))

@@ -1,4 +1,4 @@
--- The variables of the reps under a node, from those of the nodes below it. Internal: no public contract cites it. Definitions only: nothing is assumed.
+-- The variables of the reps under a node, from those of the nodes below it. Internal: no contract of a C function cites it. Definitions only: nothing is assumed.
 use mathlib.Core.Path.{_≡_}
 use mathlib.Core.Bool.{Bool, cond}
 use mathlib.Core.List.{List}

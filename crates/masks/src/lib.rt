@@ -54,6 +54,9 @@ fn mask_of(ws: &[u64; NODES], us: &[u16; NODES], n: usize) -> u16
     if leaf(w) {
         return 0;
     }
+    if form_of(w) == 3 {
+        return part_mask(us, w, 0) | part_mask(us, w, 1); // an operator: most of the others
+    }
     let x = part_mask(us, w, 2) | part_mask(us, w, 3);
     let x = part_mask(us, w, 0) | (part_mask(us, w, 1) | x);
     own_mask(w) | (body_mask(us, w) | x)

@@ -12,7 +12,7 @@ use Rattle.program.proofs.Items.{same-items, length-values}
 use Rattle.nodes.specs.Values.{childrenOf, nodeOf}
 use Rattle.shapes.specs.Shapes.{leadOf, widthOf, kidsOf, inside}
 use Rattle.nodes.specs.Body.{itemOf, constantOf, made}
-use Rattle.nodes.proofs.Items.{first, head, items-are, width-is, values-are, lead-below, first-values, first-outside, first-child, first-keeps, first-slot, first-definition, head-length, head-is, picked-append, outside-append, children-inside, children-picked, others-picked}
+use Rattle.nodes.proofs.Items.{first, head, items-are, values-are, lead-below, first-values, first-outside, first-child, first-keeps, first-slot, first-definition, head-length, head-is, picked-append, outside-append, children-inside, children-picked, others-picked}
 
 -- the node that program's definitions make of a body
 abbrev node : ℕ → ℕ → List ℕ → program.Node
@@ -40,7 +40,7 @@ module _ (kind count : ℕ) (s : List ℕ) (known : kind < 13) (right : length s
   pub node-values : valuesIn (itemsOf kind count) s ≡ vs ++ ks
   node-values =
       values-are kind count s right
-      ∙ ap (λ (v : List ℕ). v ++ ks) (first-values l s (lead-below kind) (omega (arith, width-is kind)))
+      ∙ ap (λ (v : List ℕ). v ++ ks) (first-values l s (lead-below kind))
 
   kids-length : length ks ≡ kidsOf kind count
   kids-length = length-drop (widthOf kind) s ∙ omega arith

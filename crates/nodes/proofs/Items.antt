@@ -13,7 +13,7 @@ use Rattle.program.specs.Table.{Item, constant, operator, parameter, variable, 
 use Rattle.nodes.specs.Values.{headOf}
 use Rattle.nodes.specs.Ranges.{Ranges}
 use Rattle.shapes.specs.Shapes.{leads, kidCounts, leadOf, widthOf, kidsOf, inside}
-use Rattle.nodes.specs.Body.{wordOf, itemOf, constantOf}
+use Rattle.nodes.specs.Body.{itemOf, constantOf}
 
 -- the first item by its number
 abbrev firsts : List (List Item)
@@ -113,20 +113,12 @@ unfolding bigFrom
 one-byte [] = refl
 one-byte (b ∷ s) = omega arith
 
-four-bytes : (s : List ℕ) → 4 ≤ length s → big (take 4 s) ≡ wordOf (getD s 0 0) (getD s 1 0) (getD s 2 0) (getD s 3 0)
-unfolding bigFrom
-four-bytes [] h = absurd (omega arith)
-four-bytes (a ∷ []) h = absurd (omega arith)
-four-bytes (a ∷ b ∷ []) h = absurd (omega arith)
-four-bytes (a ∷ b ∷ c ∷ []) h = absurd (omega arith)
-four-bytes (a ∷ b ∷ c ∷ d ∷ s) h = omega arith
-
-pub first-values : (l : ℕ) (s : List ℕ) → l < 8 → size (first l) ≤ length s → valuesIn (first l) s ≡ head l (itemOf l s) (constantOf l s)
-unfolding valuesIn itemOf constantOf size
-first-values l s h k =
+pub first-values : (l : ℕ) (s : List ℕ) → l < 8 → valuesIn (first l) s ≡ head l (itemOf l s) (constantOf l s)
+unfolding valuesIn itemOf constantOf
+first-values l s h =
     let one : big (take 1 s) ∷ [] ≡ getD s 0 0 ∷ [] = ap (λ (n : ℕ). n ∷ []) (one-byte s) in
-    eight (λ l. size (first l) ≤ length s → valuesIn (first l) s ≡ head l (itemOf l s) (constantOf l s))
-    (λ z. refl) (λ z. one) (λ z. one) (λ z. one) (λ z. one) (λ z. one) (λ z. ap (λ (n : ℕ). n ∷ []) (four-bytes s z)) (λ z. one) l h k
+    eight (λ l. valuesIn (first l) s ≡ head l (itemOf l s) (constantOf l s))
+    refl one one one one one refl one l h
 
 -- its range
 pub first-outside : (l i c : ℕ) → l < 8 → outside (first l) (head l i c) ≡ not (inside l i c)

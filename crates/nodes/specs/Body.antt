@@ -1,23 +1,21 @@
 -- What a node's body holds, near the code. Internal: `proofs/Items.antt` proves that it says what program's table of kinds says.
 use mathlib.Core.Bool.{cond}
 use mathlib.Core.List.{List}
-use Prim.Native.Nat.{ℕ, _+_, _*_}
-use lib.ListN.{getD, drop}
+use Prim.Native.Nat.{ℕ}
+use lib.ListN.{getD, take, drop}
 use lib.Dec.{eqb}
+use Rattle.wire.specs.Wire.{big}
 use Rattle.shapes.specs.Shapes.{leadOf, widthOf, kidsOf}
 use Rattle.nodes.specs.declared.Node.{Node}
 
 abbrev pub noNode : Node
 noNode = record { kind = 0; item = 0; kids = 0; a = 0; b = 0; c = 0; d = 0; constant = 0 }
 
-abbrev pub wordOf : ℕ → ℕ → ℕ → ℕ → ℕ
-wordOf a b c d = a * 16777216 + b * 65536 + c * 256 + d
-
 unfoldable pub itemOf : ℕ → List ℕ → ℕ
 itemOf lead s = cond (eqb lead 0) 0 (cond (eqb lead 6) 0 (getD s 0 0))
 
 unfoldable pub constantOf : ℕ → List ℕ → ℕ
-constantOf lead s = cond (eqb lead 6) (wordOf (getD s 0 0) (getD s 1 0) (getD s 2 0) (getD s 3 0)) 0
+constantOf lead s = cond (eqb lead 6) (big (take 4 s)) 0
 
 unfoldable pub made : ℕ → ℕ → ℕ → List ℕ → List ℕ → Node
 made kind lead kids s ks =

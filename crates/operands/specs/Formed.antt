@@ -1,4 +1,4 @@
--- A table of words whose nodes name only nodes below themselves: what every pass over it requires. Internal: no public contract cites it. Definitions
+-- A table of words whose nodes name only nodes below themselves: what every pass over it requires. Internal: no contract of a C function cites it. Definitions
 -- only: nothing is assumed.
 use mathlib.Core.Path.{_≡_}
 use mathlib.Core.Bool.{Bool, cond, _||_}

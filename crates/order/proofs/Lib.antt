@@ -1,2 +1,3 @@
+pub mod After
 pub mod Alike
 pub mod Footprint

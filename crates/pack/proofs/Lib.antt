@@ -1,7 +1,6 @@
 pub mod Made
 pub mod Grown
 pub mod Tables
-pub mod Bodies
 pub mod Looks
 pub mod Sorts
 pub mod Pass

@@ -8,7 +8,7 @@ use lib.ListN.{length, getD, set, take, replicate, length-set, length-replicate,
 use lib.Seq.{getD-set-same, getD-set-other}
 use lib.Dec.{eqb, leb, ltb}
 use borrow.Author.Count.{below-none, below-more}
-use borrow.Author.Tests.{eqb-true, eq-eqb, ltb-true, ltb-false, leb-false, lt-ltb}
+use borrow.Author.Tests.{eqb-true, eq-eqb, ltb-true, ltb-false, leb-true, leb-false, lt-ltb}
 use Rattle.program.specs.Table.{among, bodies}
 use Rattle.program.specs.Tree.{Expr, treeOf, trees, tree, isField, sortBroken}
 use Rattle.program.specs.Check.{sortOffends}
@@ -17,23 +17,22 @@ use Rattle.words.specs.Word.{form, item, p1, p2, p3, p4, body, count, word}
 use Rattle.words.specs.Trees.{at, made, treeAt}
 use Rattle.operands.specs.Formed.{nodes, widths, width, Formed, AllFormed}
 use Rattle.operands.proofs.Trees.{tree-0, formed}
-use Rattle.marks.specs.Agrees.{Agree}
 use Rattle.shapes.specs.Shapes.{leadOf, kidsOf}
 use Rattle.nodes.specs.Body.{noNode}
 use Rattle.nodes.specs.Values.{nodeOf}
 use Rattle.load.specs.declared.Table.{Table}
 use Rattle.load.specs.Loads.{tableOf, nodeAt, GoodNode, Good}
-use Rattle.encode.specs.Parts.{formBy, itemBy, kid, IsParts, Fits, IsWord}
+use Rattle.encode.specs.Parts.{formBy, itemBy, kid, IsParts, Fits, Leaf, IsWord}
 use Rattle.encode.proofs.Words.{Shape, shape, item-fits, form-is}
 use Rattle.sorts.specs.declared.Flags.{Flags}
-use Rattle.sorts.specs.Sorts.{partField, flagsIn, brokenBy, firstBad}
+use Rattle.sorts.specs.Sorts.{fieldAt, partField, flagsIn, brokenBy, firstBad, lowerField, lowestField}
+use Rattle.sorts.proofs.ByKind.{no-fields}
 use Rattle.pack.specs.Sorted.{Sorted}
 use Rattle.pack.specs.Packs.{Packs}
 use Rattle.pack.proofs.Made.{flagIn, flagsOf, made-is, field-is, broken-is}
 use Rattle.pack.proofs.Grown.{firsts, first-tree, tree-is, tree-at}
-use Rattle.pack.proofs.Tables.{nodes-long, node-at, body-at, bodies-are}
-use Rattle.pack.proofs.Bodies.{among-taken}
-use Rattle.pack.proofs.Looks.{Looked, look-none, look, answer}
+use Rattle.pack.proofs.Tables.{among-taken, nodes-long, node-at, body-at, bodies-are}
+use Rattle.pack.proofs.Looks.{Looked, look-none, look-clean, look, answer, alike, lowest-of}
 use Rattle.pack.proofs.Sorts.{Known, sorted}
 
 -- of node k: the trees of the nodes before it, which of its children are fields, its definition's body and count, its word and that word's parts
@@ -55,13 +54,16 @@ Worded t k w = IsWord (nodeAt t k) (bodyOf t k) (flags t k .a || flags t k .b) (
 abbrev PartsOf : Table → ℕ → ℕ → Type 0
 PartsOf t k w = IsParts (formBy (nodeAt t k .kind) (flags t k .a || flags t k .b) (flags t k .b)) (itemBy (nodeAt t k .kind) (nodeAt t k .item)) (nodeAt t k) (bodyOf t k) w
 
--- the words of the nodes below i are there, the others are 0, and r is the lowest that offends
+abbrev broken : Table → ℕ → Bool
+broken t k = sortBroken (tree (tableOf t) k)
+
+-- the words of the nodes below i are there, the others are 0, and r is the lowest whose operands' sorts are broken
 pub record Going (t : Table) (ws : List ℕ) (r i : ℕ) : Type 0 where
   pub long : length ws ≡ nodes
   pub upto : i ≤ t .n
   pub worded : (k : ℕ) → k < i → Worded t k (word ws k)
   pub rest : (k : ℕ) → i ≤ k → word ws k ≡ 0
-  pub looked : Looked (sortOffends (tableOf t) (t .main)) r i
+  pub looked : Looked (broken t) r i
 
 module _ (t : Table) (g : Good t) where
   pub begins : {ws : List ℕ} → ws ≡ replicate nodes 0 → Going t ws nodes 0
@@ -71,7 +73,7 @@ module _ (t : Table) (g : Good t) where
         upto = omega arith;
         worded = below-none _;
         rest = λ k h. go k (ltb k nodes) refl;
-        looked = look-none (sortOffends (tableOf t) (t .main));
+        looked = look-none (broken t);
       }
     where
       go : (k : ℕ) (b : Bool) → ltb k nodes ≡ b → word ws k ≡ 0
@@ -112,13 +114,6 @@ module _ (t : Table) (g : Good t) where
         made-is (tableOf t .definitions) (first t k) k (nodeAt t k) (countOf t k) (good .kind) (good .few) (good .kids)
         (bodyOf t k) w (flags t k .a || flags t k .b) (flags t k .b) (λ e. body-at t g (nodeAt t k .item) (good .definition e .0)) r
         ∙ ap (treeOf (tableOf t .definitions) (first t k) k) (sym (node-at t g k h))
-
-    offends-word : (marks : List Bool) (w : ℕ) → Agree marks (t .main ∷ take (t .defs) (t .bodies)) → Worded t k w
-        → (brokenBy (nodeAt t k .kind) (flags t k) || getD marks k false && leb 16 (form w)) ≡ sortOffends (tableOf t) (t .main) k
-    unfolding sortOffends
-    offends-word marks w a r =
-        let m : k < nodes = omega (arith, g .n) in
-        rw (broken-word, a .each k m, field-word w r, bodies-are t g)
 
     -- the node's shape, of its word's form
     module _ (ws : List ℕ) (r : Worded t k (word ws k)) where
@@ -209,11 +204,8 @@ module _ (t : Table) (g : Good t) where
         let c = g .nodes i h .children in
         rw (part-same 0 _ (c 0), part-same 1 _ (c 1), part-same 2 _ (c 2), part-same 3 _ (c 3))
 
-    pub goes : {f : Flags} {either bad : Bool} {w v q : ℕ} {marks : List Bool} → Agree marks (t .main ∷ take (t .defs) (t .bodies)) → f ≡ flagsIn ws (nodeAt t i)
-        → either ≡ f .a || f .b → IsWord (nodeAt t i) (bodyOf t i) either (f .b) w → v ≡ form w
-        → bad ≡ (brokenBy (nodeAt t i .kind) f || getD marks i false && leb 16 v) → q ≡ firstBad r i bad
-        → Going t (set ws i w) q (i + 1)
-    goes {f} {either} {bad} {w} {v} {q} {marks} a e p word-is z b c =
+    grows : {w q : ℕ} → Worded t i w → Looked (broken t) q (i + 1) → Going t (set ws i w) q (i + 1)
+    grows {w} here l =
         record {
           long = length-set ws i w ∙ s .long;
           upto = omega arith;
@@ -221,14 +213,45 @@ module _ (t : Table) (g : Good t) where
               (λ k l. subst (Worded t k) (sym (getD-set-other ws i k w 0 (λ m. omega arith))) (s .worded k l))
               (subst (Worded t i) (sym (getD-set-same ws i w 0 (omega (arith, s .long, g .n)))) here);
           rest = λ k l. getD-set-other ws i k w 0 (λ m. omega arith) ∙ s .rest k (omega arith);
-          looked = rw c (look (sortOffends (tableOf t) (t .main)) r i bad (s .looked) (omega (arith, g .n)) (b ∙ rw (z, same) (offends-word i h marks w a here)));
+          looked = l;
         }
+
+    -- a node without children, and an operator: no sort to break
+    whole : brokenBy (nodeAt t i .kind) (flags t i) ≡ false → Looked (broken t) r (i + 1)
+    whole e = look-clean (broken t) r i (s .looked) (sym (broken-word i h) ∙ e)
+
+    pub leaf : nodeAt t i .kids ≡ 0 → Leaf (nodeAt t i)
+    leaf e = record { fits = fits i h; none = e; count = countOf t i; kind = sym (good i h .kids) ∙ e }
+
+    pub leaf-goes : {w : ℕ} → nodeAt t i .kids ≡ 0 → ((side branch : Bool) → IsWord (nodeAt t i) (bodyOf t i) side branch w) → Going t (set ws i w) r (i + 1)
+    leaf-goes e here = grows (here _ _) (whole (rw e (no-fields (nodeAt t i .kind) (countOf t i) (sym (good i h .kids) ∙ e))))
+
+    pub operator : nodeAt t i .kind ≡ 3 → (nodeAt t i .kind ≡ 3) × (nodeAt t i .kids ≡ 2) × (nodeAt t i .item < 16)
+    operator e = (e, good i h .kids ∙ ap (λ (k : ℕ). kidsOf k (countOf t i)) e, rw e at (fits i h .item))
+
+    pub operator-goes : {a b side : Bool} {w : ℕ} → nodeAt t i .kind ≡ 3 → a ≡ fieldAt ws (nodeAt t i .a) → b ≡ fieldAt ws (nodeAt t i .b) → side ≡ a || b
+        → ((branch : Bool) → IsWord (nodeAt t i) (bodyOf t i) side branch w) → Going t (set ws i w) r (i + 1)
+    operator-goes {a} {b} {side} {w} e p q o here = grows (subst (λ (z : Bool). IsWord (nodeAt t i) (bodyOf t i) z (flags t i .b) w) sides (here _)) (whole (rw e))
+      where
+        two : nodeAt t i .kids ≡ 2
+        two = operator e .1
+
+        is : (j c : ℕ) → j < 2 → (j < nodeAt t i .kids → c < i) → fieldAt ws c ≡ flagIn (first t i) (nodeAt t i .kids) j c
+        is j c l f = sym (ap (λ (z : Bool). cond z (fieldAt ws c) false) (lt-ltb j (nodeAt t i .kids) (omega (arith, two)))) ∙ part-same j c f
+
+        sides : side ≡ flags t i .a || flags t i .b
+        sides = let c = good i h .children in cc (is 0 (nodeAt t i .a) (omega arith) (c 0), is 1 (nodeAt t i .b) (omega arith) (c 1))
+
+    pub goes : {f : Flags} {either bad : Bool} {w q : ℕ} → f ≡ flagsIn ws (nodeAt t i) → either ≡ f .a || f .b
+        → IsWord (nodeAt t i) (bodyOf t i) either (f .b) w → bad ≡ brokenBy (nodeAt t i .kind) f → q ≡ firstBad r i bad
+        → Going t (set ws i w) q (i + 1)
+    goes {f} {either} {bad} {w} {q} e p here b c =
+        grows
+        (subst (λ (y : Flags). IsWord (nodeAt t i) (bodyOf t i) (y .a || y .b) (y .b) w) same (subst (λ (y : Bool). IsWord (nodeAt t i) (bodyOf t i) y (f .b) w) p here))
+        (rw c (look (broken t) r i bad (s .looked) (omega (arith, g .n)) (b ∙ ap (brokenBy (nodeAt t i .kind)) same ∙ broken-word i h)))
       where
         same : f ≡ flags t i
         same = e ∙ flags-same
-
-        here : Worded t i w
-        here = subst (λ (y : Flags). IsWord (nodeAt t i) (bodyOf t i) (y .a || y .b) (y .b) w) same (subst (λ (y : Bool). IsWord (nodeAt t i) (bodyOf t i) y (f .b) w) p word-is)
 
   -- ---- all nodes
   module _ {ws : List ℕ} {r : ℕ} (s : Going t ws r (t .n)) where
@@ -311,8 +334,20 @@ module _ (t : Table) (g : Good t) where
       pub all-sorted : (k : ℕ) → k < nodes → Sorted ws k
       all-sorted k l = sorted ws k l all-formed (known k) (all-params k)
 
-    pub packs : Packs t ws r
-    packs =
+    -- the bodies and main that are fields
+    field-there : (k : ℕ) → fieldAt ws k ≡ true → k < t .n
+    field-there = by-bound {P = λ k. fieldAt ws k ≡ true → k < t .n} (λ j h _. h) (λ j h e. absurd (omega (arith, zero-form j h, leb-true 16 (form (word ws j)) e)))
+
+    all-looked : {q m : ℕ} (d : ℕ) → m ≡ lowerField ws (t .main) r → d ≡ t .defs → q ≡ lowestField ws (take d (t .bodies)) m
+        → Looked (sortOffends (tableOf t) (t .main)) q (t .n)
+    unfolding sortOffends lowestField
+    all-looked d o f e =
+        rw (e, f, o) (alike (λ k h. rw (bodies-are t g, ← field-word k h (word ws k) (s .worded k h)))
+        (lowest-of ws (t .n) (g .n) field-there (t .main ∷ take (t .defs) (t .bodies)) (s .looked)))
+
+    pub packs : {q m : ℕ} (d : ℕ) → m ≡ lowerField ws (t .main) r → d ≡ t .defs → q ≡ lowestField ws (take d (t .bodies)) m → Packs t ws q
+    packs {q} d o f e =
+        let l = all-looked d o f e in
         record {
           long = s .long;
           trees = same-trees;
@@ -320,7 +355,7 @@ module _ (t : Table) (g : Good t) where
           rest = s .rest;
           formed = all-formed;
           params = λ k l. all-params k;
-          place = rw (nodes-long t g) (answer (sortOffends (tableOf t) (t .main)) r (t .n) (s .looked));
-          most = s .looked .most;
-          sorted = λ e. all-sorted (s .looked .clean e);
+          place = rw (nodes-long t g) (answer (sortOffends (tableOf t) (t .main)) q (t .n) (g .n) l);
+          most = l .most;
+          sorted = λ e. all-sorted (λ k h. l .clean k h (omega (arith, g .n)));
         }

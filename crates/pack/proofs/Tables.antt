@@ -1,11 +1,14 @@
 -- The nodes and definitions of the table that a loaded one stands for. Assumes nothing.
 use mathlib.Core.Path.{_≡_, refl, ap, _∙_}
+use mathlib.Core.Bool.{true, or-true}
 use mathlib.Core.List.{List, [], _∷_}
 use Prim.Native.Nat.{ℕ, zero, suc, _<_}
 use native.Mathlib.Omega.{arith}
 use lib.ListN.{length, getD, take, length-take, length-map, List·getD-map}
 use lib.Seq.{getD-take}
-use Rattle.program.specs.Table.{noDefinition, bodies}
+use lib.Dec.{eqb}
+use borrow.Author.Tests.{eq-eqb}
+use Rattle.program.specs.Table.{noDefinition, among, bodies}
 use Rattle.nodes.specs.Body.{noNode}
 use Rattle.nodes.specs.Values.{nodeOf}
 use Rattle.load.specs.declared.Table.{Table}
@@ -25,6 +28,14 @@ paired-bodies [] [] e = refl
 paired-bodies [] (b ∷ bs) e = absurd (omega arith)
 paired-bodies (c ∷ cs) [] e = absurd (omega arith)
 paired-bodies (c ∷ cs) (b ∷ bs) e = ap (λ (l : List ℕ). b ∷ l) (paired-bodies cs bs (omega arith))
+
+-- a body is among them
+pub among-taken : (bs : List ℕ) (m d : ℕ) → d < m → d < length bs → among (getD bs d 0) (take m bs) ≡ true
+unfolding among
+among-taken bs zero d h l = absurd (omega arith)
+among-taken [] (suc m) d h l = absurd (omega arith)
+among-taken (b ∷ bs) (suc m) zero h l = rw (eq-eqb b b refl)
+among-taken (b ∷ bs) (suc m) (suc d) h l = rw (among-taken bs m d (omega arith) (omega arith)) (or-true (eqb (getD bs d 0) b))
 
 module _ (t : Table) (g : Good t) where
   same-long : length (take (t .defs) (t .counts)) ≡ length (take (t .defs) (t .bodies))

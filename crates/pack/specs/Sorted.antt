@@ -1,4 +1,4 @@
--- What the evaluator requires of a node of a table of words, but for its mask. Internal: no public contract cites it. Definitions only: nothing is
+-- What the evaluator requires of a node of a table of words, but for its mask. Internal: no contract of a C function cites it. Definitions only: nothing is
 -- assumed.
 use mathlib.Core.Path.{_≡_}
 use mathlib.Core.List.{List}

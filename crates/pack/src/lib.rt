@@ -1,16 +1,17 @@
 // A loaded table as words, and the lowest node whose sort is broken (refusal 7).
+use encode::leaf_word;
+use encode::operator_word;
 use encode::word_of;
+use sorts::broken;
 use sorts::either;
 use sorts::first_bad;
 use sorts::flags_of;
-use sorts::offends;
-use unpack::form_of;
+use sorts::is_field;
+use sorts::lower_field;
+use sorts::lowest_field;
 ghost use mathlib.Core.Path.{_≡_};
-ghost use mathlib.Core.List.{[], _∷_};
-ghost use Prim.Native.Nat.{ℕ, _<_, _≤_};
-ghost use lib.ListN.{length, getD, take, replicate};
+ghost use lib.ListN.{length, replicate};
 ghost use Rattle.operands.specs.Formed.{nodes};
-ghost use Rattle.marks.specs.Agrees.{Agree};
 ghost use Rattle.load.specs.Loads.{Good};
 ghost use Rattle.pack.specs.Packs.{kindOf, itemOf, Column, Packs};
 
@@ -19,22 +20,7 @@ const NODES: usize = 256;
 // The answer where no node offends.
 const NONE: u16 = NODES as u16;
 
-fn no_marks() -> [bool; NODES]
-    ensures { λ r. ⌜ Agree r [] ⌝ }
-{
-    let no = false;
-    [no; NODES]
-}
-
-// Marks of main and of the bodies.
-fn body_marks(bodies: [u8; NODES], defs: usize, main: u8) -> [bool; NODES]
-    requires { ⌜ (defs ≤ nodes) × ((d : ℕ) → d < defs → getD bodies d 0 < nodes) ⌝ }
-    ensures { λ r. ⌜ Agree r (main ∷ take defs bodies) ⌝ }
-{
-    let none = no_marks();
-    let some = marks::mark(&bodies[0..defs], none);
-    marks::mark_if(true, main, some)
-}
+const OPERATOR: u8 = 3;
 
 fn clear(ws: &mut [u64; NODES])
     requires { ⌜ length (now ws) ≡ nodes ⌝ }
@@ -55,20 +41,27 @@ pub fn pack(
 {
     clear(ws);
     let bodies = t.bodies;
-    let marks = body_marks(bodies, t.defs, t.main);
     let n = t.n;
     let mut r = NONE;
     let mut i: usize = 0;
     while i < n {
         let x = t.nodes[i];
-        let s = flags_of(ws, x);
-        let w = word_of(x, bodies[x.item as usize], either(s.a, s.b), s.b);
-        let bad = offends(x.kind, s, marks[i], form_of(w));
-        ws[i] = w;
+        let body = bodies[x.item as usize];
         kinds[i] = x.kind;
         items[i] = x.item;
-        r = first_bad(r, i as u16, bad);
+        // a node without children and an operator have no sort to break
+        if x.kids == 0 {
+            ws[i] = leaf_word(x, body);
+        } else if x.kind == OPERATOR {
+            ws[i] = operator_word(x, body, either(is_field(ws, x.a), is_field(ws, x.b)));
+        } else {
+            let s = flags_of(ws, x);
+            ws[i] = word_of(x, body, either(s.a, s.b), s.b);
+            r = first_bad(r, i as u16, broken(x.kind, s));
+        }
         i += 1;
     }
-    r
+    // a body or main that is a field offends
+    let defs = t.defs;
+    lowest_field(ws, &bodies[0..defs], lower_field(ws, t.main, r))
 }

@@ -1,4 +1,5 @@
 -- Each clause of the clash list is needed: two events that it names, and a network on which their order matters. `proofs/Clashes.antt` computes it.
+-- ("one fires a and the other fires a" is no case of its own: the two are equal entries, copies of one event.)
 -- Definitions only: nothing is assumed.
 use mathlib.Core.Path.{_≡_}
 use mathlib.Core.List.{List, [], _∷_, _++_}

@@ -129,7 +129,7 @@ pub record Meets (ps : List Part) (main : ℕ) : Type 0 where
   -- "Main may cost 1,000,000."
   pub cheap : cost (tree (tableOf ps) main) ≤ 1000000
 
--- "The program check accepts a table exactly when it meets 01's conditions": of a list of bytes
+-- what the check accepts, exactly: of a list of bytes
 abbrev pub Bytes : List ℕ → Type 0
 Bytes s = (i : ℕ) → getD s i 0 < 256
 

@@ -100,7 +100,7 @@ sortBroken (foldOp n o i f) = isField i || not (isField f)
 sortBroken (foldDef d i f) = isField i || not (isField f)
 sortBroken (call d a b c e) = isField a || isField b || isField c || isField e
 
--- "parameter not below its tree's count, variable misread": the nodes, in a tree whose definition has count parameters, under the updates of the
+-- "parameter not below its tree's count (main 0), variable misread": the nodes, in a tree whose definition has count parameters, under the updates of the
 -- reps of kept. "A variable is read only under the update of its rep, in the same tree."
 unfoldable pub misread : ℕ → List ℕ → Expr → List ℕ
 misread count kept nothing = []

@@ -1,6 +1,8 @@
 // One field of a list: a tag byte, a length of two bytes (high first), a body.
 ghost use mathlib.Core.Path.{_≡_};
+ghost use mathlib.Core.List.{[], _∷_};
 ghost use Prim.Native.Nat.{_+_, _*_};
+ghost use Rattle.wire.specs.Wire.{big};
 ghost use Rattle.reader.specs.Field.{fieldAt};
 
 pub enum Field {
@@ -22,6 +24,13 @@ fn be16(hi: u8, lo: u8) -> usize
     ensures { λ r. ⌜ r ≡ hi * 256 + lo ⌝ }
 {
     (hi as usize) * 256 + (lo as usize)
+}
+
+// Four bytes, high first.
+pub fn be32(a: u8, b: u8, c: u8, d: u8) -> u32
+    ensures { λ r. ⌜ r ≡ big (a ∷ b ∷ c ∷ d ∷ []) ⌝ }
+{
+    (a as u32) * 16777216 + (b as u32) * 65536 + (c as u32) * 256 + (d as u32)
 }
 
 // The field that starts at `at`.

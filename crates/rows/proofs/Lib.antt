@@ -1,4 +1,3 @@
 pub mod Tests
 pub mod Clear
-pub mod Takes
 pub mod Rows

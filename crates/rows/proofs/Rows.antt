@@ -16,8 +16,9 @@ use Rattle.marks.specs.Marked.{takenIn}
 use Rattle.nodes.proofs.Items.{size-is, same-kids, in-ranges}
 use Rattle.nodes.proofs.Body.{node-outside, node-children, node-slots, node-keeps, node-definitions}
 use Rattle.marks.proofs.Marks.{taken-is}
-use Rattle.rows.specs.Marks.{Marks}
-use Rattle.rows.specs.Numbers.{orElse, callNumber, itemTaken, shapeNumber, bodyNumber, nodeNumber, definitionNumber, mainNumber, fieldNumber}
+use Rattle.kinds.specs.Marks.{Marks}
+use Rattle.kinds.specs.Numbers.{orElse, callNumber, itemTaken, shapeNumber, bodyNumber, nodeNumber}
+use Rattle.rows.specs.Numbers.{definitionNumber, mainNumber, fieldNumber}
 use Rattle.rows.specs.Shows.{Shows}
 
 -- one row; a row whose test the code turns round; two rows of one number

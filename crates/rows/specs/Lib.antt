@@ -1,4 +1,3 @@
-pub mod Marks
 pub mod Numbers
+pub mod Roots
 pub mod Shows
-pub mod Reads

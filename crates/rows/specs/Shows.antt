@@ -6,7 +6,7 @@ use lib.ListN.{length, getD}
 use Rattle.program.specs.Table as program
 use Rattle.program.specs.Table.{Table, slot, keeps, allNumbers, definitionAt}
 use Rattle.marks.specs.Agrees.{Agree}
-use Rattle.rows.specs.Marks.{Marks}
+use Rattle.kinds.specs.Marks.{Marks}
 
 pub record Shows (n defs : ℕ) (counts : List ℕ) (m : Marks) (t : Table) : Type 0 where
   pub nodes : n ≡ length (t .nodes)

@@ -1,11 +1,11 @@
 -- The lowest node that misreads in a tree, from its parts'; and in all trees of a table. Assumes nothing.
 use mathlib.Core.Path.{_≡_, refl, sym, ap, _∙_}
 use mathlib.Core.Bool.{Bool, true, false, cond, or-comm}
-use mathlib.Core.List.{List, [], _∷_, _++_, append-nil}
-use Prim.Native.Nat.{ℕ, min, max, _+_, _*_, _^_, _≤_, _<_}
+use mathlib.Core.List.{List, [], _∷_, _++_}
+use Prim.Native.Nat.{ℕ, zero, suc, min, max, _+_, _*_, _^_, _≤_, _<_}
 use native.Mathlib.Numerals.{add-one}
 use native.Mathlib.Omega.{arith}
-use lib.ListN.{getD, drop}
+use lib.ListN.{length, getD, drop}
 use lib.Seq.{drop-cons, drop-length}
 use lib.Dec.{eqb, ltb}
 use lib.Bits.{bitOr}
@@ -18,42 +18,13 @@ use Rattle.words.specs.Trees.{treeAt}
 use Rattle.operands.specs.Formed.{nodes, width, operand, part, Formed, AllFormed}
 use Rattle.masks.specs.Masks.{hasBit}
 use Rattle.masks.proofs.Bits.{no-bit, power-bit, or-bit}
-use Rattle.operands.proofs.Trees.{View, is-0, is-1, is-2, is-3, is-4, is-5, is-6, is-7, is-8, is-9, is-10, is-16, is-17, is-18, is-19, view}
+use Rattle.operands.proofs.Trees.{view}
 use Rattle.operands.proofs.Leaves.{Leaf, leaf-width}
+use Rattle.reads.specs.Reads.{Clean}
+use Rattle.reads.proofs.Misread.{ownList, keptIn, all-misread}
 use Rattle.scopes.specs.Places.{found, At}
 use Rattle.scopes.specs.Scope.{InScope, Lowest, ownPlace, inner, Told}
 use Rattle.scopes.proofs.Places.{join}
-
--- ---- a node's misreading nodes are itself, and those of its operands
-abbrev ownList : ℕ → ℕ → ℕ → List ℕ → List ℕ
-ownList n w count kept =
-    cond (eqb (form w) 1) (cond (ltb (item w) count) [] (n ∷ []))
-    (cond (eqb (form w) 2) (cond (among (item w) kept) [] (n ∷ [])) [])
-
-abbrev keptIn : ℕ → List ℕ → List ℕ
-keptIn w kept = cond (eqb (form w) 5) (item w ∷ kept) kept
-
-all-misread : {ws : List ℕ} {n w : ℕ} → View ws n w → (count : ℕ) (kept : List ℕ)
-    → misread count kept (treeAt ws n)
-    ≡ ownList n w count kept
-    ++ (misread count kept (part ws w 0)
-    ++ (misread count (keptIn w kept) (part ws w 1) ++ (misread count kept (part ws w 2) ++ misread count kept (part ws w 3))))
-unfolding misread width
-all-misread (is-0 h e) count kept = rw (e, h)
-all-misread (is-1 h e) count kept = rw (e, h) (simp append-nil)
-all-misread (is-2 h e) count kept = rw (e, h) (simp append-nil)
-all-misread (is-3 h e) count kept = rw (e, h) (simp append-nil)
-all-misread (is-4 h e) count kept = rw (e, h) (simp append-nil)
-all-misread (is-5 h e) count kept = rw (e, h) (simp append-nil)
-all-misread (is-6 h e) count kept = rw (e, h) (simp append-nil)
-all-misread (is-7 h e) count kept = rw (e, h) (simp append-nil)
-all-misread (is-8 h e) count kept = rw (e, h) (simp append-nil)
-all-misread (is-9 h e) count kept = rw (e, h)
-all-misread (is-10 h e) count kept = rw (e, h) (simp append-nil)
-all-misread (is-16 h e) count kept = rw (e, h) (simp append-nil)
-all-misread (is-17 h e) count kept = rw (e, h)
-all-misread (is-18 h e) count kept = rw (e, h) (simp append-nil)
-all-misread (is-19 h e) count kept = rw (e, h) (simp append-nil)
 
 own-place : (n w count scope : ℕ) (kept : List ℕ) → n < nodes → InScope scope kept → At (ownList n w count kept) (ownPlace n w count scope)
 unfolding lowest ownPlace
@@ -161,3 +132,23 @@ module _ {ws counts bodies : List ℕ} {definitions main : ℕ} (t : Table) (h :
   pub all-trees : {r s : ℕ} → Lowest 0 0 (treeAt ws main) r s → At (misreadIn t (t .definitions)) r
       → At (misread 0 [] (tree t main) ++ misreadIn t (t .definitions)) s
   all-trees w i = rw (← h .trees main (h .given), w .least) (join (w .place [] no-scope) i)
+
+  -- none misreads
+  module _ (c : Clean ws counts bodies definitions main) where
+    none-from : (k d : ℕ) → k + d ≡ definitions → misreadIn t (drop d (t .definitions)) ≡ []
+    unfolding misreadIn
+    none-from zero d e = let f : d ≡ length (t .definitions) = omega (arith, h .defined .all) in rw (f, drop-length (t .definitions))
+    none-from (suc k) d e =
+        let l : d < definitions = omega arith in
+        rw (
+          drop-cons (t .definitions) d noDefinition (omega (arith, h .defined .all)),
+          h .defined .count d l,
+          h .defined .body d l,
+          ← h .trees (getD bodies d 0) (h .defined .given d l),
+          c .body d l,
+        )
+        (none-from k (suc d) (omega arith))
+
+    pub clean-trees : At (misread 0 [] (tree t main) ++ misreadIn t (t .definitions)) nodes
+    unfolding lowest
+    clean-trees = record { is = rw (← h .trees main (h .given), c .root, none-from definitions 0 (omega arith)) }

@@ -1,4 +1,4 @@
--- What the walk that looks for misread parameters and variables goes by. Internal: no public contract cites it. Definitions only: nothing is assumed.
+-- What the walk that looks for misread parameters and variables goes by. Internal: no contract of a C function cites it. Definitions only: nothing is assumed.
 use mathlib.Core.Path.{_≡_}
 use mathlib.Core.Bool.{cond}
 use mathlib.Core.List.{List}

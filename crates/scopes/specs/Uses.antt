@@ -1,4 +1,4 @@
--- What the search for a wrong use of a definition goes by. Internal: no public contract cites it. Definitions only: nothing is assumed.
+-- What the search for a wrong use of a definition goes by. Internal: no contract of a C function cites it. Definitions only: nothing is assumed.
 use mathlib.Core.Path.{_≡_}
 use mathlib.Core.Bool.{Bool, false, not, _&&_, _||_}
 use mathlib.Core.List.{List}

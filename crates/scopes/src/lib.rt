@@ -111,6 +111,9 @@ pub fn misread_lowest(
     requires { ⌜ AllFormed (now ws) × (definitions ≤ nodes) × (main < nodes) ⌝ }
     ensures { λ r. ⌜ ((t : Table) → Told t (now (ws .entry)) (now (counts .entry)) (now (bodies .entry)) definitions main → lowest (misread 0 [] (tree t main) ++ misreadIn t (t .definitions)) ≡ found r) ⌝ }
 {
+    if reads::clean(ws, counts, bodies, definitions, main as usize) {
+        return NONE;
+    }
     let mut r = NONE;
     let mut d = definitions;
     while 0 < d {

@@ -1,2 +1,2 @@
 pub mod Pick
-pub mod Digits
+pub mod Inside

@@ -4,9 +4,9 @@ use mathlib.Core.List.{List, [], _∷_}
 use Prim.Native.Nat.{ℕ}
 use lib.ListN.{getD}
 use lib.Dec.{eqb, ltb}
-use Rattle.shapes.specs.declared.Shape.{Shape}
 
--- by kind: the item that stands first, how many bytes it has, how many children follow
+-- by kind: the item that stands first (0 none, 1 operator, 2 parameter, 3 variable, 4 variable that a rep keeps, 5 slot, 6 constant, 7 definition),
+-- how many bytes it has, how many children follow
 abbrev pub leads : List ℕ
 leads = 6 ∷ 2 ∷ 3 ∷ 1 ∷ 0 ∷ 4 ∷ 0 ∷ 0 ∷ 5 ∷ 5 ∷ 1 ∷ 7 ∷ 7 ∷ []
 
@@ -25,9 +25,7 @@ widthOf kind = getD widths kind 0
 abbrev pub kidsOf : ℕ → ℕ → ℕ
 kidsOf kind count = getD (kidCounts count) kind 0
 
-unfoldable pub shapeOf : ℕ → ℕ → Shape
-shapeOf kind count = record { lead = leadOf kind; width = widthOf kind; kids = kidsOf kind count }
-
+-- whether an item, or a constant, is in its range
 unfoldable pub inside : ℕ → ℕ → ℕ → Bool
 inside lead item constant =
     cond (eqb lead 1) (ltb item 9)

@@ -5,6 +5,7 @@ use Prim.Native.Nat.{ℕ, zero, suc, _/_, _<_, _≤_}
 use native.Mathlib.Omega.{arith}
 use lib.Dec.{eqb}
 use borrow.Author.Tests.{eqb-true, eqb-false}
+use Rattle.shapes.specs.Shapes.{kidsOf}
 use Rattle.sorts.specs.declared.Flags.{Flags}
 use Rattle.sorts.specs.Sorts.{differs, brokenBy}
 
@@ -50,3 +51,20 @@ other-kind s (suc (suc (suc (suc (suc (suc (suc (suc (suc (suc zero)))))))))) l 
 other-kind s (suc (suc (suc (suc (suc (suc (suc (suc (suc (suc (suc zero))))))))))) l h a b c d e f = absurd (c refl)
 other-kind s (suc (suc (suc (suc (suc (suc (suc (suc (suc (suc (suc (suc zero)))))))))))) l h a b c d e f = absurd (f refl)
 other-kind s (suc (suc (suc (suc (suc (suc (suc (suc (suc (suc (suc (suc (suc k))))))))))))) l h a b c d e f = absurd (omega arith)
+
+-- a node without children
+pub no-fields : (kind count : ℕ) → kidsOf kind count ≡ 0 → brokenBy kind (record { a = false; b = false; c = false; d = false }) ≡ false
+no-fields zero count e = refl
+no-fields (suc zero) count e = refl
+no-fields (suc (suc zero)) count e = refl
+no-fields (suc (suc (suc zero))) count e = refl
+no-fields (suc (suc (suc (suc zero)))) count e = refl
+no-fields (suc (suc (suc (suc (suc zero))))) count e = refl
+no-fields (suc (suc (suc (suc (suc (suc zero)))))) count e = refl
+no-fields (suc (suc (suc (suc (suc (suc (suc zero))))))) count e = refl
+no-fields (suc (suc (suc (suc (suc (suc (suc (suc zero)))))))) count e = refl
+no-fields (suc (suc (suc (suc (suc (suc (suc (suc (suc zero))))))))) count e = refl
+no-fields (suc (suc (suc (suc (suc (suc (suc (suc (suc (suc zero)))))))))) count e = absurd (omega arith)
+no-fields (suc (suc (suc (suc (suc (suc (suc (suc (suc (suc (suc zero))))))))))) count e = absurd (omega arith)
+no-fields (suc (suc (suc (suc (suc (suc (suc (suc (suc (suc (suc (suc zero)))))))))))) count e = refl
+no-fields (suc (suc (suc (suc (suc (suc (suc (suc (suc (suc (suc (suc (suc k))))))))))))) count e = refl

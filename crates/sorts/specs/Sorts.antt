@@ -1,6 +1,6 @@
--- The sorts of a node's children, by their words, and whether they are what the node's kind asks for. Internal: no public contract cites it.
+-- The sorts of a node's children, by their words, and whether they are what the node's kind asks for. Internal: no contract of a C function cites it.
 -- Definitions only: nothing is assumed.
-use mathlib.Core.Bool.{Bool, false, not, cond, _||_}
+use mathlib.Core.Bool.{Bool, false, not, cond, _&&_, _||_}
 use mathlib.Core.List.{List, [], _∷_}
 use Prim.Native.Nat.{ℕ}
 use lib.ListN.{getD}
@@ -13,9 +13,13 @@ use Rattle.sorts.specs.declared.Flags.{Flags}
 abbrev pub differs : Bool → Bool → Bool
 differs x y = cond x (not y) y
 
+-- node k is a field
+abbrev pub fieldAt : List ℕ → ℕ → Bool
+fieldAt ws k = leb 16 (form (word ws k))
+
 -- child j, of so many, is a field
 abbrev pub partField : List ℕ → ℕ → ℕ → ℕ → Bool
-partField ws kids j k = cond (ltb j kids) (leb 16 (form (word ws k))) false
+partField ws kids j k = cond (ltb j kids) (fieldAt ws k) false
 
 abbrev pub flagsIn : List ℕ → Node → Flags
 flagsIn ws x =
@@ -40,3 +44,11 @@ brokenBy kind s =
 -- the lowest that offends, where r was that before node n
 abbrev pub firstBad : ℕ → ℕ → Bool → ℕ
 firstBad r n bad = cond (ltb r nodes) r (cond bad n nodes)
+
+-- the lower of r and node k, where that is a field; the lowest of r and of those among ks that are fields
+abbrev pub lowerField : List ℕ → ℕ → ℕ → ℕ
+lowerField ws k r = cond (fieldAt ws k && ltb k r) k r
+
+unfoldable pub lowestField : List ℕ → List ℕ → ℕ → ℕ
+lowestField ws [] r = r
+lowestField ws (k ∷ ks) r = lowestField ws ks (lowerField ws k r)

@@ -1,11 +1,10 @@
-// Refusal 7 of one node: which of its children are fields, whether these are the sorts that its kind asks for, and the lowest
-// node that offends so far.
+// Refusal 7: which of a node's children are fields, whether these are the sorts that its kind asks for, and the lowest node
+// that offends.
 use unpack::form_of;
 ghost use mathlib.Core.Path.{_≡_};
-ghost use mathlib.Core.Bool.{_&&_, _||_};
+ghost use mathlib.Core.Bool.{_||_};
 ghost use Prim.Native.Nat.{_<_};
-ghost use lib.Dec.{leb};
-ghost use Rattle.sorts.specs.Sorts.{differs, partField, flagsIn, brokenBy, firstBad};
+ghost use Rattle.sorts.specs.Sorts.{differs, fieldAt, partField, flagsIn, brokenBy, firstBad, lowerField, lowestField};
 
 const NODES: usize = 256;
 
@@ -38,12 +37,19 @@ fn differ(x: bool, y: bool) -> bool
     y
 }
 
+// Whether node k is a field, by its word.
+pub fn is_field(ws: &[u64; NODES], k: u8) -> bool
+    ensures { λ r. ⌜ r ≡ fieldAt (now (ws .entry)) k ⌝ }
+{
+    16 <= form_of(ws[k as usize])
+}
+
 // Whether child j, of so many, is a field.
 fn part_field(ws: &[u64; NODES], kids: u8, j: u8, k: u8) -> bool
     ensures { λ r. ⌜ r ≡ partField (now (ws .entry)) kids j k ⌝ }
 {
     if j < kids {
-        return 16 <= form_of(ws[k as usize]);
+        return is_field(ws, k);
     }
     false
 }
@@ -64,7 +70,7 @@ pub fn flags_of(ws: &[u64; NODES], x: nodes::Node) -> Flags
 }
 
 // Whether a node's operands are not of the sorts that its kind asks for.
-fn broken(kind: u8, s: Flags) -> bool
+pub fn broken(kind: u8, s: Flags) -> bool
     requires { ⌜ kind < 13 ⌝ }
     ensures { λ r. ⌜ r ≡ brokenBy kind s ⌝ }
 {
@@ -95,20 +101,6 @@ fn broken(kind: u8, s: Flags) -> bool
     s.a
 }
 
-// A body or main is no field.
-pub fn offends(kind: u8, s: Flags, marked: bool, form: u8) -> bool
-    requires { ⌜ kind < 13 ⌝ }
-    ensures { λ r. ⌜ r ≡ (brokenBy kind s || marked && leb 16 form) ⌝ }
-{
-    if broken(kind, s) {
-        return true;
-    }
-    if marked {
-        return 16 <= form;
-    }
-    false
-}
-
 // The lowest node that offends so far, with node n looked at.
 pub fn first_bad(r: u16, n: u16, bad: bool) -> u16
     ensures { λ s. ⌜ s ≡ firstBad r n bad ⌝ }
@@ -120,4 +112,29 @@ pub fn first_bad(r: u16, n: u16, bad: bool) -> u16
         return n;
     }
     NONE
+}
+
+// The lower of r and node k, where that is a field.
+pub fn lower_field(ws: &[u64; NODES], k: u8, r: u16) -> u16
+    ensures { λ s. ⌜ s ≡ lowerField (now (ws .entry)) k r ⌝ }
+{
+    if is_field(ws, k) {
+        if (k as u16) < r {
+            return k as u16;
+        }
+    }
+    r
+}
+
+// The lowest of r and of the nodes among ks that are fields.
+pub fn lowest_field(ws: &[u64; NODES], ks: &[u8], r: u16) -> u16
+    ensures { λ s. ⌜ s ≡ lowestField (now (ws .entry)) (now (ks .entry)) r ⌝ }
+{
+    let mut low = r;
+    let mut i: usize = 0;
+    while i < ks.len() {
+        low = lower_field(ws, ks[i], low);
+        i += 1;
+    }
+    low
 }

@@ -1,4 +1,4 @@
--- Whether a node is spatial, from the marks of the nodes below it. Internal: no public contract cites it. Definitions only: nothing is assumed.
+-- Whether a node is spatial, from the marks of the nodes below it. Internal: no contract of a C function cites it. Definitions only: nothing is assumed.
 use mathlib.Core.Path.{_≡_}
 use mathlib.Core.Bool.{Bool, false, cond, _||_}
 use mathlib.Core.List.{List}

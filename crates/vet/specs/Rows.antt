@@ -1,4 +1,4 @@
--- What the rows over all nodes go by. Internal: no public contract cites it. Definitions only: nothing is assumed.
+-- What the rows over all nodes go by. Internal: no contract of a C function cites it. Definitions only: nothing is assumed.
 use mathlib.Core.Path.{_≡_}
 use mathlib.Core.List.{List, [], _++_}
 use Prim.Native.Nat.{ℕ, _<_, _≤_}

@@ -1,4 +1,4 @@
--- What the evaluator requires of a table of words, and of the masks beside it: the variables of the reps under each node. Internal: no public contract
+-- What the evaluator requires of a table of words, and of the masks beside it: the variables of the reps under each node. Internal: no contract of a C function
 -- cites it. Definitions only: nothing is assumed.
 use mathlib.Core.Path.{_≡_}
 use mathlib.Core.Bool.{Bool, true}

@@ -1,4 +1,4 @@
--- The tree that a node of a table of words stands for. Internal: no public contract cites it. Definitions only: nothing is assumed.
+-- The tree that a node of a table of words stands for. Internal: no contract of a C function cites it. Definitions only: nothing is assumed.
 use mathlib.Core.Bool.{Bool, cond}
 use mathlib.Core.List.{List, [], _∷_, _++_}
 use Prim.Native.Nat.{ℕ, zero, suc}

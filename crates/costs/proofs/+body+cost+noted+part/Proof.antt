@@ -11,7 +11,7 @@ use Rattle.operands.proofs.leaf.Reads as leaf-reads
 use Rattle.operands.proofs.Leaves.{leaf-of}
 use Rattle.operands.proofs.operand.Reads as operand-reads
 use Rattle.operands.proofs.width_of.Reads as width-of-reads
-use Rattle.costs.proofs.Laws.{at-most, within, joined, body-fold, body-call, body-none, part-some, part-none, part-leaf, is-noted, now-noted, asks-cost, asks-noted, goes-on}
+use Rattle.costs.proofs.Laws.{at-most, within, joined, operator-joined, body-fold, body-call, body-none, part-some, part-none, part-leaf, is-noted, now-noted, asks-cost, asks-noted, goes-on}
 use Rattle.costs.proofs.add.Reads as add-reads
 use Rattle.costs.proofs.fifteen.Reads as fifteen-reads
 use Rattle.costs.proofs.body.Reads as body
@@ -69,7 +69,7 @@ abbrev body-calls : ℕ → body-lts.Claims
 body-calls t = (form-of-reads.Asked, form-of-reads.Learnt, operand-reads.Asked, operand-reads.Learnt, noted-below t, noted.Post, fifteen-reads.Asked, fifteen-reads.Learnt, add-reads.Asked, add-reads.Learnt)
 
 abbrev cost-calls : ℕ → cost-lts.Claims
-cost-calls t = (add-reads.Asked, add-reads.Learnt, body-below t, body.Post, part-below t, part.Post)
+cost-calls t = (add-reads.Asked, add-reads.Learnt, form-of-reads.Asked, form-of-reads.Learnt, part-below t, part.Post, body-below t, body.Post)
 
 abbrev noted-calls : ℕ → noted-lts.Claims
 noted-calls t = (cost-below t, cost.Post)
@@ -116,26 +116,44 @@ body-returns-2 t c = body-call (getD (c .before .before .before .before .before 
 body-returns-3 : (t : ℕ) → body-lts.Need-returns-3 (body-calls t) (body-at t) body.Post
 body-returns-3 t c = body-none (getD (c .before .before .before .before .args .ws .now) (c .before .before .before .before .args .n) 0) (c .before .before .form-of .ensures) (c .before .before .before .before .args .sum) (c .before .if1 .left) (c .if2 .left) (c .before .before .before .before .pre .1 .0 .noted) (c .before .before .before .before .pre .1 .1)
 
+cost-mul-w : (t : ℕ) → cost-lts.Need-mul-w (cost-calls t) (cost-at t) cost.Post
+cost-mul-w t c = search needs
+
+cost-element-copy-out-w : (t : ℕ) → cost-lts.Need-element-copy-out-w (cost-calls t) (cost-at t) cost.Post
+cost-element-copy-out-w t c = search needs
+
 cost-add-requires : (t : ℕ) → cost-lts.Need-add-requires (cost-calls t) (cost-at t) cost.Post
 cost-add-requires t c κs = (c .before .pre .1 .1, omega arith)
 
-cost-body-requires : (t : ℕ) → cost-lts.Need-body-requires (cost-calls t) (cost-at t) cost.Post
-cost-body-requires t c κs = (omega (arith, c .before .before .pre .0), (c .before .before .pre .1 .0, within _ (c .add .ensures)))
+cost-form-of-requires : (t : ℕ) → cost-lts.Need-form-of-requires (cost-calls t) (cost-at t) cost.Post
+cost-form-of-requires t c κs = search needs
 
 cost-part-requires : (t : ℕ) → cost-lts.Need-part-requires (cost-calls t) (cost-at t) cost.Post
-cost-part-requires t c κs = (omega (arith, c .before .before .before .before .pre .0), (omega arith, goes-on (c .before .before .before .before .pre .1 .0) (c .before .body .ensures), at-most (c .before .body .ensures)))
+cost-part-requires t c κs = (omega (arith, c .before .before .before .before .before .pre .0), (omega arith, c .before .before .before .before .before .pre .1 .0, within _ (c .before .before .before .add .ensures)))
 
 cost-part-requires-2 : (t : ℕ) → cost-lts.Need-part-requires-2 (cost-calls t) (cost-at t) cost.Post
-cost-part-requires-2 t c κs = (omega (arith, c .before .before .before .before .before .before .pre .0), (omega arith, goes-on (c .before .before .before .before .before .before .pre .1 .0) (c .before .part .ensures), at-most (c .before .part .ensures)))
-
-cost-part-requires-3 : (t : ℕ) → cost-lts.Need-part-requires-3 (cost-calls t) (cost-at t) cost.Post
-cost-part-requires-3 t c κs = (omega (arith, c .before .before .before .before .before .before .before .before .pre .0), (omega arith, goes-on (c .before .before .before .before .before .before .before .before .pre .1 .0) (c .before .part2 .ensures), at-most (c .before .part2 .ensures)))
-
-cost-part-requires-4 : (t : ℕ) → cost-lts.Need-part-requires-4 (cost-calls t) (cost-at t) cost.Post
-cost-part-requires-4 t c κs = (omega (arith, c .before .before .before .before .before .before .before .before .before .before .pre .0), (omega arith, goes-on (c .before .before .before .before .before .before .before .before .before .before .pre .1 .0) (c .before .part3 .ensures), at-most (c .before .part3 .ensures)))
+cost-part-requires-2 t c κs = (omega (arith, c .before .before .before .before .before .before .before .pre .0), (omega arith, goes-on (c .before .before .before .before .before .before .before .pre .1 .0) (c .before .part .ensures), at-most (c .before .part .ensures)))
 
 cost-returns : (t : ℕ) → cost-lts.Need-returns (cost-calls t) (cost-at t) cost.Post
-cost-returns t c = record { value = joined (c .before .before .before .before .before .before .before .before .before .before .before .pre .1 .0 .formed .node (c .before .before .before .before .before .before .before .before .before .before .before .args .n) (c .before .before .before .before .before .before .before .before .before .before .before .pre .1 .0 .inside)) (c .before .before .before .before .before .before .before .before .before .before .before .args .sum) (c .before .before .before .before .before .before .before .before .before .add .ensures) (c .before .before .before .before .before .before .before .before .body .ensures .value) (c .before .before .before .before .before .before .part .ensures .value) (c .before .before .before .before .part2 .ensures .value) (c .before .before .part3 .ensures .value) (c .part4 .ensures .value); noted = c .part4 .ensures .noted }
+cost-returns t c = record { value = operator-joined (c .before .before .before .before .before .before .before .before .pre .1 .0 .formed .node (c .before .before .before .before .before .before .before .before .args .n) (c .before .before .before .before .before .before .before .before .pre .1 .0 .inside)) (c .before .before .before .before .before .before .before .before .args .sum) (sym (c .before .before .before .before .before .form-of .ensures) ∙ c .before .before .before .before .if1 .taken) (c .before .before .before .before .before .before .add .ensures) (c .before .before .part .ensures .value) (c .part2 .ensures .value); noted = c .part2 .ensures .noted }
+
+cost-body-requires : (t : ℕ) → cost-lts.Need-body-requires (cost-calls t) (cost-at t) cost.Post
+cost-body-requires t c κs = (omega (arith, c .before .before .before .before .before .pre .0), (c .before .before .before .before .before .pre .1 .0, within _ (c .before .before .before .add .ensures)))
+
+cost-part-requires-3 : (t : ℕ) → cost-lts.Need-part-requires-3 (cost-calls t) (cost-at t) cost.Post
+cost-part-requires-3 t c κs = (omega (arith, c .before .before .before .before .before .before .before .pre .0), (omega arith, goes-on (c .before .before .before .before .before .before .before .pre .1 .0) (c .before .body .ensures), at-most (c .before .body .ensures)))
+
+cost-part-requires-4 : (t : ℕ) → cost-lts.Need-part-requires-4 (cost-calls t) (cost-at t) cost.Post
+cost-part-requires-4 t c κs = (omega (arith, c .before .before .before .before .before .before .before .before .before .pre .0), (omega arith, goes-on (c .before .before .before .before .before .before .before .before .before .pre .1 .0) (c .before .part3 .ensures), at-most (c .before .part3 .ensures)))
+
+cost-part-requires-5 : (t : ℕ) → cost-lts.Need-part-requires-5 (cost-calls t) (cost-at t) cost.Post
+cost-part-requires-5 t c κs = (omega (arith, c .before .before .before .before .before .before .before .before .before .before .before .pre .0), (omega arith, goes-on (c .before .before .before .before .before .before .before .before .before .before .before .pre .1 .0) (c .before .part4 .ensures), at-most (c .before .part4 .ensures)))
+
+cost-part-requires-6 : (t : ℕ) → cost-lts.Need-part-requires-6 (cost-calls t) (cost-at t) cost.Post
+cost-part-requires-6 t c κs = (omega (arith, c .before .before .before .before .before .before .before .before .before .before .before .before .before .pre .0), (omega arith, goes-on (c .before .before .before .before .before .before .before .before .before .before .before .before .before .pre .1 .0) (c .before .part5 .ensures), at-most (c .before .part5 .ensures)))
+
+cost-returns-2 : (t : ℕ) → cost-lts.Need-returns-2 (cost-calls t) (cost-at t) cost.Post
+cost-returns-2 t c = record { value = joined (c .before .before .before .before .before .before .before .before .before .before .before .before .before .before .pre .1 .0 .formed .node (c .before .before .before .before .before .before .before .before .before .before .before .before .before .before .args .n) (c .before .before .before .before .before .before .before .before .before .before .before .before .before .before .pre .1 .0 .inside)) (c .before .before .before .before .before .before .before .before .before .before .before .before .before .before .args .sum) (c .before .before .before .before .before .before .before .before .before .before .before .before .add .ensures) (c .before .before .before .before .before .before .before .before .body .ensures .value) (c .before .before .before .before .before .before .part3 .ensures .value) (c .before .before .before .before .part4 .ensures .value) (c .before .before .part5 .ensures .value) (c .part6 .ensures .value); noted = c .part6 .ensures .noted }
 
 noted-mul-note : (t : ℕ) → noted-lts.Need-mul-note (noted-calls t) (noted-at t) noted.Post
 noted-mul-note t c = search needs
@@ -217,13 +235,19 @@ pub +body+cost+noted+part-spec : {M : Type 1} → statement M
     (λ t. cost-lts.spec (cost-calls t)
     (cost-at t)
     cost.Post
+    (cost-mul-w t)
+    (cost-element-copy-out-w t)
     (cost-add-requires t)
-    (cost-body-requires t)
+    (cost-form-of-requires t)
     (cost-part-requires t)
     (cost-part-requires-2 t)
+    (cost-returns t)
+    (cost-body-requires t)
     (cost-part-requires-3 t)
     (cost-part-requires-4 t)
-    (cost-returns t))
+    (cost-part-requires-5 t)
+    (cost-part-requires-6 t)
+    (cost-returns-2 t))
     (λ t. noted-lts.spec (noted-calls t)
     (noted-at t)
     noted.Post

@@ -1,5 +1,5 @@
 -- `fresh::fresh` meets its contract. Assumes nothing.
-use mathlib.Core.Path.{_≡_, refl, _∙_}
+use mathlib.Core.Path.{_≡_, refl, ap, _∙_}
 use Prim.Native.Nat.{_-_, _*_, _≤_}
 use native.Mathlib.Omega.{arith}
 use lib.ListN.{length}
@@ -14,10 +14,10 @@ use Rattle.fresh.proofs.fresh.Statement.{statement}
 use Rattle.fresh.proofs.fresh.Tie as tie
 
 abbrev Inv-loop : tie.InvT-loop
-Inv-loop net₀ device₀ net device = (device ≤ 16) × (length net ≡ length net₀) × (net ≡ store net₀ 0 (copies device freshBlock))
+Inv-loop net₀ block device₀ net device = (device ≤ 16) × (length net ≡ length net₀) × (net ≡ store net₀ 0 (copies device freshBlock))
 
 abbrev μ-loop : tie.MeasureT-loop
-μ-loop net₀ device₀ net device = 16 - device
+μ-loop net₀ block device₀ net device = 16 - device
 
 refused-requires : tie.Need-refused-requires Inv-loop μ-loop
 refused-requires c κs = search needs
@@ -26,15 +26,20 @@ returns : tie.Need-returns Inv-loop μ-loop
 unfolding freshCall
 returns c = rw (ne-eqb _ _ (c .before .if1 .taken)) (both (c .refused .ensures) refl)
 
+fresh-block-requires : tie.Need-fresh-block-requires Inv-loop μ-loop
+fresh-block-requires c κs = search needs
+
 loop-holds : tie.Need-loop-holds Inv-loop μ-loop
 unfolding copies
-loop-holds c = (omega arith, refl, nothing-yet (now (c .before .args .net)) 0)
+loop-holds c = (omega arith, refl, nothing-yet (now (c .before .before .args .net)) 0)
 
-mul-fresh-block : tie.Need-mul-fresh-block Inv-loop μ-loop
-mul-fresh-block c = omega arith
+mul-put : tie.Need-mul-put Inv-loop μ-loop
+mul-put c = omega arith
 
-fresh-block-requires : tie.Need-fresh-block-requires Inv-loop μ-loop
-fresh-block-requires c κs = omega arith
+put-requires : tie.Need-put-requires Inv-loop μ-loop
+put-requires c κs =
+    let e = c .before .before .before .before .fresh-block .ensures in
+    (omega arith, ap length e ∙ length-block)
 
 add-device : tie.Need-add-device Inv-loop μ-loop
 add-device c = omega arith
@@ -43,7 +48,15 @@ loop-less : tie.Need-loop-less Inv-loop μ-loop
 loop-less c = omega arith
 
 loop-again : tie.Need-loop-again Inv-loop μ-loop
-loop-again c = (omega arith, c .net .given ∙ c .before .before .before .before .loop .inv .1, c .before .fresh-block .ensures ∙ copy-more (now (c .before .before .before .before .before .before .args .net)) (c .before .before .before .before .loop .net) 0 (c .before .before .before .before .loop .device * 529) (c .before .before .before .before .loop .device) 529 freshBlock length-block (c .before .before .before .before .loop .inv .2) (omega arith))
+loop-again c =
+    let s = c .before .before .before .before .before .before .before .before in
+    let b = c .before .before .before .before .before .before .fresh-block in
+    let l = c .before .before .before .before .before .loop in (
+      omega arith,
+      c .net .given ∙ l .inv .1,
+      c .before .put .ensures ∙ ap (store (l .net) (l .device * 529)) (b .ensures)
+          ∙ copy-more (now (s .args .net)) (l .net) 0 (l .device * 529) (l .device) 529 freshBlock length-block (l .inv .2) (omega arith),
+    )
 
 accepted-requires : tie.Need-accepted-requires Inv-loop μ-loop
 accepted-requires c κs = search needs
@@ -53,7 +66,11 @@ same-length c = c .before .before .loop .inv .1
 
 returns-2 : tie.Need-returns-2 Inv-loop μ-loop
 unfolding freshCall
-returns-2 c = rw (eq-eqb _ _ (c .before .before .before .if1 .left)) (both (c .accepted .ensures) (made-fresh (now (c .before .before .before .before .args .net)) (c .before .before .loop .net) (c .before .before .loop .device) (omega arith) (c .before .before .before .if1 .left) (c .before .before .loop .inv .2)))
+returns-2 c =
+    let s = c .before .before .before .before .before in
+    let q = c .before .before .before .before .if1 .left in
+    let l = c .before .before .loop in
+    rw (eq-eqb _ _ q) (both (c .accepted .ensures) (made-fresh (now (s .args .net)) (l .net) (l .device) (omega arith) q (l .inv .2)))
 
 pub fresh-spec : {M : Type 1} → statement M
 fresh-spec =
@@ -63,9 +80,10 @@ fresh-spec =
     μ-loop
     refused-requires
     returns
-    loop-holds
-    mul-fresh-block
     fresh-block-requires
+    loop-holds
+    mul-put
+    put-requires
     add-device
     loop-less
     loop-again

@@ -1,60 +1,77 @@
 -- `fresh::fresh_block` meets its contract. Assumes nothing.
-use mathlib.Core.Path.{_≡_, refl, _∙_}
-use Prim.Native.Nat.{_+_}
+use mathlib.Core.Path.{_≡_, refl, ap, _∙_}
+use mathlib.Core.List.{List}
+use Prim.Native.Nat.{ℕ, zero, suc, _+_, _-_, _*_, _≤_}
 use native.Mathlib.Omega.{arith}
-use lib.IntN.{pos}
-use lib.ListN.{length, length-set}
-use denote.Ref.{now}
+use native.Mathlib.Numerals.{add-one}
 use borrow.Author.Needs.{needs}
-use Rattle.network.specs.Network.{copies, noMessage}
-use Rattle.fresh.proofs.Stores.{block-on}
+use lib.IntN.{ℤ, pos}
+use lib.ListN.{length, set, replicate, length-set}
+use Rattle.number.specs.Number.{mark}
+use Rattle.network.specs.Network.{copies}
 use Rattle.fresh.proofs.fresh_block.Statement.{statement}
 use Rattle.fresh.proofs.fresh_block.Tie as tie
 
-clear-requires : tie.Need-clear-requires
-clear-requires c κs = search needs
+-- the block when the pending marks to the first k devices are 0
+abbrev so-far : ℕ → List ℤ
+so-far zero = set (replicate 529 mark) 16 (pos 0)
+so-far (suc k) = set (so-far k) (273 + 16 * k) (pos 0)
 
-add-net : tie.Need-add-net
-add-net c = search needs
+abbrev Inv-loop : tie.InvT-loop
+Inv-loop block₀ b₀ block b = (b ≤ 16) × (length block ≡ 529) × (block ≡ so-far b)
 
-mul-net : tie.Need-mul-net
-mul-net c = search needs
+abbrev μ-loop : tie.MeasureT-loop
+μ-loop block₀ b₀ block b = 16 - b
 
-slice-set-of-net : tie.Need-slice-set-of-net
-slice-set-of-net c = search needs
+array-set-of-block : tie.Need-array-set-of-block Inv-loop μ-loop
+array-set-of-block c = search needs
 
-add-clear : tie.Need-add-clear
-add-clear c = search needs
+loop-holds : tie.Need-loop-holds Inv-loop μ-loop
+loop-holds c = (omega arith, refl, refl)
 
-clear-requires-2 : tie.Need-clear-requires-2
-clear-requires-2 c κs = let e : length (c .before .before .clear .last .0) ≡ length (now (c .before .before .before .before .args .net)) = c .before .net .given in
-    omega (arith, length-set (c .before .before .clear .last .0) (c .before .before .before .before .args .at + 16) (pos 0))
+mul-block : tie.Need-mul-block Inv-loop μ-loop
+mul-block c = search needs
 
-add-no-messages : tie.Need-add-no-messages
-add-no-messages c = search needs
+add-block : tie.Need-add-block Inv-loop μ-loop
+add-block c = search needs
 
-no-messages-requires : tie.Need-no-messages-requires
-no-messages-requires c κs = let e : length (c .before .before .before .before .before .clear .last .0) ≡ length (now (c .before .before .before .before .before .before .before .args .net)) = c .before .before .before .before .net .given in
-    let f : length (c .before .before .clear2 .last .0) ≡ length (c .before .before .before .before .before .clear .last .0) = c .before .net2 .given ∙ length-set (c .before .before .before .before .before .clear .last .0) (c .before .before .before .before .before .before .before .args .at + 16) (pos 0) in
-    omega arith
+mul-block-2 : tie.Need-mul-block-2 Inv-loop μ-loop
+mul-block-2 c = search needs
 
-same-length : tie.Need-same-length
-same-length c = c .net3 .given ∙ c .before .before .before .net2 .given ∙ length-set (c .before .before .before .before .before .before .before .clear .last .0) (c .before .before .before .before .before .before .before .before .before .args .at + 16) (pos 0) ∙ c .before .before .before .before .before .before .net .given
+array-set-of-block-2 : tie.Need-array-set-of-block-2 Inv-loop μ-loop
+array-set-of-block-2 c = search needs
 
-returns : tie.Need-returns
-returns c = block-on (now (c .before .before .before .before .before .before .before .before .before .args .net)) (c .before .before .before .before .before .before .before .clear .last .0) (c .before .before .before .before .clear2 .last .0) (c .before .no-messages .last .0) (c .before .before .before .before .before .before .before .before .before .args .at) (c .before .before .before .before .before .before .before .before .before .args .at + 17) (c .before .before .before .before .before .before .before .before .before .args .at + 273) (copies 16 noMessage) (c .before .before .before .before .before .before .before .clear .ensures) (c .before .before .before .before .clear2 .ensures) refl (c .before .no-messages .ensures) refl
+add-b : tie.Need-add-b Inv-loop μ-loop
+add-b c = search needs
+
+loop-less : tie.Need-loop-less Inv-loop μ-loop
+loop-less c = search needs
+
+loop-again : tie.Need-loop-again Inv-loop μ-loop
+loop-again c =
+    let l = c .before .loop in
+    (omega arith, length-set (l .block) _ _ ∙ l .inv .1, rw (l .inv .2, add-one (l .b)))
+
+returns : tie.Need-returns Inv-loop μ-loop
+unfolding copies
+returns c =
+    let l = c .before .loop in
+    let e : l .b ≡ 16 = omega arith in
+    l .inv .2 ∙ ap so-far e
 
 pub fresh-block-spec : {M : Type 1} → statement M
 fresh-block-spec =
     tie.close
     (tie.spec
-    clear-requires
-    add-net
-    mul-net
-    slice-set-of-net
-    add-clear
-    clear-requires-2
-    add-no-messages
-    no-messages-requires
-    same-length
+    Inv-loop
+    μ-loop
+    array-set-of-block
+    loop-holds
+    mul-block
+    add-block
+    mul-block-2
+    array-set-of-block-2
+    add-b
+    loop-less
+    loop-again
     returns)

@@ -1,6 +1,5 @@
 -- `load::end_number` meets its contract. Assumes nothing.
-use Rattle.rows.proofs.Tests.{told}
-use Rattle.shapes.proofs.Pick.{onTrue, onFalse}
+use Rattle.shapes.proofs.Pick.{onTrue, onFalse, told}
 use Rattle.load.specs.Steps.{endNumber}
 use borrow.Author.Tests.{eq-eqb, ne-eqb}
 use mathlib.Core.Path.{refl}

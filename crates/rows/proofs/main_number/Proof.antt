@@ -1,7 +1,7 @@
 -- `rows::main_number` meets its contract. Assumes nothing.
 use denote.Ref.{now}
-use Rattle.shapes.proofs.Pick.{onTrue, onFalse}
-use Rattle.rows.proofs.Tests.{told, le-as, lt-as, mark-as, set-as}
+use Rattle.shapes.proofs.Pick.{onTrue, onFalse, told}
+use Rattle.rows.proofs.Tests.{le-as, lt-as, mark-as, set-as}
 use Rattle.rows.specs.Numbers.{mainNumber}
 use borrow.Author.Tests.{eq-eqb, ne-eqb}
 use native.Mathlib.Omega.{arith}

@@ -8,7 +8,7 @@ use Rattle.program.specs.Check.{misreadIn}
 use Rattle.program.specs.Table.{Table}
 use Rattle.scopes.specs.Scope.{Told}
 use Rattle.scopes.specs.Places.{At}
-use Rattle.scopes.proofs.Walks.{none-misread, more-misread, all-trees}
+use Rattle.scopes.proofs.Walks.{none-misread, more-misread, all-trees, clean-trees}
 use Rattle.scopes.proofs.misread_lowest.Statement.{statement}
 use Rattle.scopes.proofs.misread_lowest.Tie as tie
 
@@ -18,6 +18,12 @@ Inv-loop ws counts bodies definitions main r₀ d₀ r d =
 
 abbrev μ-loop : tie.MeasureT-loop
 μ-loop ws counts bodies definitions main r₀ d₀ r d = d
+
+clean-requires : tie.Need-clean-requires Inv-loop μ-loop
+clean-requires c κs = search needs
+
+returns : tie.Need-returns Inv-loop μ-loop
+returns c = λ t h. clean-trees t h (c .before .clean .ensures (c .if1 .taken)) .is
 
 loop-holds : tie.Need-loop-holds Inv-loop μ-loop
 loop-holds c = (omega arith, λ t h. none-misread t h)
@@ -35,7 +41,7 @@ element-copy-out-walk : tie.Need-element-copy-out-walk Inv-loop μ-loop
 element-copy-out-walk c = search needs
 
 walk-requires : tie.Need-walk-requires Inv-loop μ-loop
-walk-requires c κs = (c .before .wide .ensures .1, c .before .before .before .before .before .pre .0)
+walk-requires c κs = (c .before .wide .ensures .1, c .before .before .before .before .before .before .before .pre .0)
 
 loop-less : tie.Need-loop-less Inv-loop μ-loop
 loop-less c = search needs
@@ -44,10 +50,10 @@ loop-again : tie.Need-loop-again Inv-loop μ-loop
 loop-again c = (omega arith, λ t h. let e : c .before .before .before .before .before .loop .d ≡ (c .before .before .before .before .before .loop .d - 1) + 1 = omega arith in more-misread t h (c .before .before .before .before .before .loop .d - 1) (omega arith) (rw (c .before .before .wide .ensures .0) at (c .walk .ensures)) (rw e at (c .before .before .before .before .before .loop .inv .1 t h)))
 
 walk-requires-2 : tie.Need-walk-requires-2 Inv-loop μ-loop
-walk-requires-2 c κs = (c .before .before .pre .2, c .before .before .pre .0)
+walk-requires-2 c κs = (c .before .before .before .before .pre .2, c .before .before .before .before .pre .0)
 
-returns : tie.Need-returns Inv-loop μ-loop
-returns c = λ t h. let e : c .before .before .loop .d ≡ 0 = omega arith in all-trees t h (c .walk2 .ensures) (rw e at (c .before .before .loop .inv .1 t h)) .is
+returns-2 : tie.Need-returns-2 Inv-loop μ-loop
+returns-2 c = λ t h. let e : c .before .before .loop .d ≡ 0 = omega arith in all-trees t h (c .walk2 .ensures) (rw e at (c .before .before .loop .inv .1 t h)) .is
 
 pub misread-lowest-spec : {M : Type 1} → statement M
 misread-lowest-spec =
@@ -55,6 +61,8 @@ misread-lowest-spec =
     (tie.spec
     Inv-loop
     μ-loop
+    clean-requires
+    returns
     loop-holds
     sub-d
     element-copy-out-wide
@@ -64,4 +72,4 @@ misread-lowest-spec =
     loop-less
     loop-again
     walk-requires-2
-    returns)
+    returns-2)

@@ -1,0 +1,60 @@
+-- `encode::leaf_word` meets its contract. Assumes nothing.
+use native.Mathlib.Omega.{arith}
+use mathlib.Core.Path.{refl}
+use Rattle.encode.proofs.Leaves.{leaf-call, leaf-other}
+use borrow.Author.Needs.{needs}
+use Rattle.encode.proofs.leaf_word.Statement.{statement}
+use Rattle.encode.proofs.leaf_word.Tie as tie
+
+constant-word-requires : tie.Need-constant-word-requires
+constant-word-requires c κs = search needs
+
+returns : tie.Need-returns
+returns c = λ s t. record { isConstant = λ _. c .constant-word .ensures; isParts = λ n. absurd (n (c .before .if1 .taken)) }
+
+mul-w : tie.Need-mul-w
+mul-w c = search needs
+
+add-result : tie.Need-add-result
+add-result c = search needs
+
+returns-2 : tie.Need-returns-2
+returns-2 c = λ s t. leaf-call _ s t (c .before .before .before .before .pre) (c .if2 .taken) (omega arith) refl
+
+pick-requires : tie.Need-pick-requires
+pick-requires c κs = search needs
+
+cast-result : tie.Need-cast-result
+cast-result c = search needs
+
+mul-result : tie.Need-mul-result
+mul-result c = search needs
+
+add-result-2 : tie.Need-add-result-2
+add-result-2 c = search needs
+
+cast-result-2 : tie.Need-cast-result-2
+cast-result-2 c = search needs
+
+add-result-3 : tie.Need-add-result-3
+add-result-3 c = search needs
+
+returns-3 : tie.Need-returns-3
+returns-3 c = λ s t. leaf-other _ s t (c .before .before .before .before .before .before .before .pre) (c .before .before .before .before .before .if1 .left) (c .before .before .before .if2 .left) (c .before .pick .ensures) (omega arith) refl
+
+pub leaf-word-spec : {M : Type 1} → statement M
+leaf-word-spec =
+    tie.close
+    (tie.spec
+    constant-word-requires
+    returns
+    mul-w
+    add-result
+    returns-2
+    pick-requires
+    cast-result
+    mul-result
+    add-result-2
+    cast-result-2
+    add-result-3
+    returns-3)

@@ -1,0 +1,53 @@
+-- `kinds::operator` meets its contract. Assumes nothing.
+use mathlib.Core.Path.{refl}
+use native.Mathlib.Omega.{arith}
+use Rattle.shapes.proofs.Inside.{operator-out, operator-in}
+use Rattle.kinds.proofs.Fields.{wrong-size, body-refused, read, out-of-range, children-last, item-2-parts}
+use borrow.Author.Needs.{needs}
+use Rattle.kinds.proofs.operator.Statement.{statement}
+use Rattle.kinds.proofs.operator.Tie as tie
+
+no-node-requires : tie.Need-no-node-requires
+no-node-requires c κs = search needs
+
+returns : tie.Need-returns
+returns c = λ defs counts slots kept. wrong-size (c .before .before .before .pre .1) (c .before .before .before .pre .0) (c .before .before .before .pre .2) (c .before .if1 .taken) (c .no-node .ensures)
+
+shared-slice-read-item : tie.Need-shared-slice-read-item
+shared-slice-read-item c = search needs
+
+no-node-requires-2 : tie.Need-no-node-requires-2
+no-node-requires-2 c κs = search needs
+
+returns-2 : tie.Need-returns-2
+returns-2 c = λ defs counts slots kept. body-refused (c .before .before .before .before .before .pre .1) (c .before .before .before .before .before .pre .0) (c .before .before .before .before .before .pre .2) (c .before .before .before .if1 .left) (item-2-parts _ refl refl (c .before .before .before .if1 .left)) (out-of-range (operator-out (c .before .if2 .taken))) (λ z. omega arith) (c .no-node2 .ensures)
+
+shared-slice-read-x : tie.Need-shared-slice-read-x
+shared-slice-read-x c = search needs
+
+shared-slice-read-y : tie.Need-shared-slice-read-y
+shared-slice-read-y c = search needs
+
+two-children-requires : tie.Need-two-children-requires
+two-children-requires c κs = search needs
+
+given-requires : tie.Need-given-requires
+given-requires c κs = search needs
+
+returns-3 : tie.Need-returns-3
+returns-3 c = λ defs counts slots kept. read (c .before .before .before .before .before .before .before .before .before .pre .1) (c .before .before .before .before .before .before .before .before .before .pre .0) (c .before .before .before .before .before .before .before .before .before .pre .2) (c .before .before .before .before .before .before .before .if1 .left) (item-2-parts _ refl refl (c .before .before .before .before .before .before .before .if1 .left)) (children-last (operator-in (c .before .before .before .before .before .if2 .left)) refl (c .before .two-children .ensures) refl refl) (c .given .ensures)
+
+pub operator-spec : {M : Type 1} → statement M
+operator-spec =
+    tie.close
+    (tie.spec
+    no-node-requires
+    returns
+    shared-slice-read-item
+    no-node-requires-2
+    returns-2
+    shared-slice-read-x
+    shared-slice-read-y
+    two-children-requires
+    given-requires
+    returns-3)
