@@ -1,63 +1,89 @@
--- Each rule of arithmetic at an example, by computation. Assumes nothing.
+-- Each rule of arithmetic at examples, by computation. Assumes nothing.
 use mathlib.Core.Path.{_≡_, refl}
-use mathlib.Core.Bool.{true, false}
-use lib.IntN.{pos, negsuc}
-use Rattle.number.specs.Number.{floor, inf, div, mul, lt, operatorOf, brought, plus, minus, times, over, faults}
+use mathlib.Core.Bool.{Bool, true, false}
+use mathlib.Core.List.{List, [], _∷_, map}
+use Prim.Native.Nat.{ℕ}
+use lib.IntN.{ℤ, pos, negℤ}
+use Rattle.number.specs.Number.{floor, inf, mark, eqZ, Operator, add, sub, mul, div, lt, gt, ge, eq, ne, operatorOf, brought, plus, minus, times, over, result, faults}
 
--- "+ with an inf is inf"
-pub inf-plus : plus inf (negsuc 4) ≡ inf
-unfolding plus brought
-inf-plus = refl
+-- what the examples compute with
+unfoldable opened : ℕ → ℕ
+unfolding operatorOf brought plus minus times over result faults
+opened n = n
 
-pub plus-inf : plus (negsuc 4) inf ≡ inf
-unfolding plus brought
-plus-inf = refl
+abbrev neg : ℕ → ℤ
+neg n = negℤ (pos n)
+
+-- "from -2,147,483,647 (called floor) to 2,147,483,647 (called inf). The mark -2,147,483,648 means absent."
+limits : (floor ≡ neg 2147483647) × (inf ≡ pos 2147483647) × (mark ≡ neg 2147483648)
+limits = (refl, refl, refl)
+
+equal : (eqZ (pos 3) (pos 3) ≡ true) × (eqZ (pos 3) (pos 4) ≡ false) × (eqZ (neg 3) (neg 3) ≡ true) × (eqZ (neg 3) (neg 4) ≡ false) × (eqZ (pos 3) (neg 4) ≡ false) × (eqZ (neg 4) (pos 3) ≡ false)
+equal = (refl, refl, refl, refl, refl, refl)
+
+-- "Operators 0–8: + - × / < > >= == !="
+abbrev operators : List Operator
+operators = add ∷ sub ∷ mul ∷ div ∷ lt ∷ gt ∷ ge ∷ eq ∷ ne ∷ []
+
+numbered : map operatorOf (0 ∷ 1 ∷ 2 ∷ 3 ∷ 4 ∷ 5 ∷ 6 ∷ 7 ∷ 8 ∷ []) ≡ operators
+unfolding opened
+numbered = refl
+
+-- each of them at one pair of numbers: "Comparisons give 1 or 0."
+all : ℤ → ℤ → List ℤ
+all x y = map (λ o. result o x y) operators
+
+smaller-first : all (pos 2) (pos 7) ≡ pos 9 ∷ neg 5 ∷ pos 14 ∷ pos 0 ∷ pos 1 ∷ pos 0 ∷ pos 0 ∷ pos 0 ∷ pos 1 ∷ []
+unfolding opened all
+smaller-first = refl
+
+larger-first : all (pos 7) (neg 2) ≡ pos 5 ∷ pos 9 ∷ neg 14 ∷ neg 3 ∷ pos 0 ∷ pos 1 ∷ pos 1 ∷ pos 0 ∷ pos 1 ∷ []
+unfolding opened all
+larger-first = refl
+
+alike : all (pos 3) (pos 3) ≡ pos 6 ∷ pos 0 ∷ pos 9 ∷ pos 1 ∷ pos 0 ∷ pos 0 ∷ pos 1 ∷ pos 1 ∷ pos 0 ∷ []
+unfolding opened all
+alike = refl
+
+-- "Arithmetic is exact, then brought into floor..inf.": 65,536 × 32,768 = inf; the last number inside, and the first outside, at either end
+brought-in : (times (pos 65536) (pos 32768) ≡ inf) × (times (neg 65536) (pos 32768) ≡ floor) × (plus (pos 2147483646) (pos 1) ≡ inf) × (plus floor (neg 1) ≡ floor) × (minus floor (pos 1) ≡ floor)
+unfolding opened
+brought-in = (refl, refl, refl, refl, refl)
+
+inside : (brought inf ≡ inf) × (brought floor ≡ floor) × (brought (pos 2147483648) ≡ inf) × (brought mark ≡ floor) × (brought (pos 2147483646) ≡ pos 2147483646) × (brought (neg 2147483646) ≡ neg 2147483646)
+unfolding opened
+inside = (refl, refl, refl, refl, refl, refl)
+
+-- "First: + with an inf is inf"
+plus-inf : (plus inf (neg 5) ≡ inf) × (plus (neg 5) inf ≡ inf) × (plus floor inf ≡ inf) × (plus inf floor ≡ inf)
+unfolding opened
+plus-inf = (refl, refl, refl, refl)
 
 -- "inf - n is inf; n - inf is floor for other n"
-pub inf-minus : minus inf inf ≡ inf
-unfolding minus brought
-inf-minus = refl
-
-pub minus-inf : minus (pos 5) inf ≡ floor
-unfolding minus brought
-minus-inf = refl
+minus-inf : (minus inf (pos 5) ≡ inf) × (minus inf inf ≡ inf) × (minus (pos 5) inf ≡ floor) × (minus floor inf ≡ floor)
+unfolding opened
+minus-inf = (refl, refl, refl, refl)
 
 -- "inf / n is inf for n > 0, floor for n < 0; n / inf is 0 for other n"
-pub inf-over : over inf (pos 2) ≡ inf
-unfolding over brought
-inf-over = refl
+over-inf : (over inf (pos 1) ≡ inf) × (over inf inf ≡ inf) × (over inf (neg 1) ≡ floor) × (over (neg 5) inf ≡ pos 0) × (over floor inf ≡ pos 0)
+unfolding opened
+over-inf = (refl, refl, refl, refl, refl)
 
-pub inf-over-negative : over inf (negsuc 1) ≡ floor
-unfolding over brought
-inf-over-negative = refl
+-- × has no rule for inf, and floor has none of its own
+no-rule : (times inf (pos 0) ≡ pos 0) × (times (pos 1) inf ≡ inf) × (over floor (neg 1) ≡ inf) × (over floor (pos 2) ≡ neg 1073741823)
+unfolding opened
+no-rule = (refl, refl, refl, refl)
 
-pub over-inf : over (negsuc 4) inf ≡ pos 0
-unfolding over brought
-over-inf = refl
-
--- "Division drops the fraction": -7 / 2 = -3
-pub fraction-dropped : over (negsuc 6) (pos 2) ≡ negsuc 2
-unfolding over brought
-fraction-dropped = refl
-
--- "exact, then brought into floor..inf"
-pub brought-down : times (pos 65536) (pos 32768) ≡ inf
-unfolding times brought
-brought-down = refl
-
-pub brought-up : minus floor (pos 1) ≡ floor
-unfolding minus brought
-brought-up = refl
+-- "Division drops the fraction.": towards 0, whatever the signs
+fraction-dropped : (over (neg 7) (pos 2) ≡ neg 3) × (over (pos 7) (neg 2) ≡ neg 3) × (over (neg 7) (neg 2) ≡ pos 3) × (over (pos 1) (pos 2) ≡ pos 0)
+unfolding opened
+fraction-dropped = (refl, refl, refl, refl)
 
 -- "Divisor 0 faults always", and nothing else does
-pub zero-faults : faults div (pos 0) ≡ true
-unfolding faults
+zero-faults : map (λ o. faults o (pos 0)) operators ≡ false ∷ false ∷ false ∷ true ∷ false ∷ false ∷ false ∷ false ∷ false ∷ []
+unfolding opened
 zero-faults = refl
 
-pub others-pass : faults mul (pos 0) ≡ false
-unfolding faults
-others-pass = refl
-
-pub fifth-operator : operatorOf 4 ≡ lt
-unfolding operatorOf
-fifth-operator = refl
+others-pass : (faults div (pos 1) ≡ false) × (faults div (neg 1) ≡ false) × (faults div inf ≡ false)
+unfolding opened
+others-pass = (refl, refl, refl)

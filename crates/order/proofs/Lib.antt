@@ -1,3 +1,4 @@
-pub mod After
-pub mod Alike
+pub mod Shown
 pub mod Footprint
+pub mod Alike
+pub mod Agree

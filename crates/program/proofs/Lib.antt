@@ -19,3 +19,17 @@ pub mod Scoping
 pub mod Spread
 pub mod Uses
 pub mod Exact
+pub mod Shown
+pub mod ShownKinds
+pub mod ShownRows
+pub mod ShownLimits
+pub mod ShownTree
+pub mod ShownSorts
+pub mod ShownReads
+pub mod ShownUses
+pub mod ShownCheck
+pub mod ShownCost
+pub mod ShownSortRules
+pub mod ShownTreeRules
+pub mod ShownBytes
+pub mod ShownMeets

@@ -1,3 +1,5 @@
+pub mod ShownClashes
+pub mod ShownDemand3
 pub mod Flat
 pub mod Digits
 pub mod Touched
@@ -5,3 +7,4 @@ pub mod Apart
 pub mod Commute
 pub mod Answers
 pub mod Whole
+pub mod Symmetric

@@ -14,7 +14,7 @@ textOf (Bytes p) program (Bytes n) list = replayed (take p program) (take n list
 textOf (Bytes p) program Refused list = refused 18 0
 textOf Refused program second list = refused 18 0
 
--- the first r bytes of `out` are the text of two reads that left these buffers
+-- the first r bytes of `out` are the text of two reads that left these buffers. What the reads answered is not said: no contract of the kit tells it
 pub record Printed (program list out : List ℕ) (r : ℕ) : Type 0 where
   pub first : Whole
   pub second : Whole

@@ -1,1 +1,9 @@
-pub mod Shortcuts
+pub mod ShownCells
+pub mod ShownShortcuts
+pub mod ShownOrder
+pub mod ShownOperators
+pub mod ShownConditions
+pub mod ShownErasing
+pub mod ShownNeighbours
+pub mod ShownFolds
+pub mod ShownFired

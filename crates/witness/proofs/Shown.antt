@@ -1,27 +1,37 @@
--- What demand 3 is given can be met, and it then concludes.
-use mathlib.Core.Path.{_≡_, refl, ap}
-use mathlib.Core.List.{List, [], _∷_, _++_}
+-- What demand 3 is given can be met, and what it then concludes, by computation and by demand 3.
+use mathlib.Core.Path.{_≡_, refl, sym, ap, _∙_}
+use mathlib.Core.List.{List, [], _∷_}
+use Prim.Native.Nat.{ℕ, _<_}
+use native.Mathlib.Decide.{ℕ-discrete}
 use native.Mathlib.Omega.{arith}
 use lib.ListN.{getD}
+use lib.IntN.{pos}
+use Rattle.order.specs.Order.{count, place, SameEvents, KeepsOrder}
+use Rattle.order.proofs.Agree.{agree-sound}
 use Rattle.network.specs.Network.{fresh}
 use Rattle.event.specs.Event.{Entry}
+use Rattle.event.specs.Step.{Answer}
+use Rattle.event.specs.Calls.{Result, performed}
+use Rattle.program.specs.Check.{mainOf}
+use Rattle.event.proofs.Passed.{run-performed}
 use Rattle.paper.specs.Programs.{counter}
 use Rattle.paper.proofs.Computed.{computed}
 use Rattle.paper.proofs.Fresh.{fresh-sound}
 use Rattle.reorder.specs.Clash.{entriesClash}
-use Rattle.reorder.specs.Same.{sameEntry}
-use Rattle.reorder.specs.Demand3.{Given}
+use Rattle.reorder.specs.Same.{sameBoth, sameBytes, sameParts, sameEntry}
+use Rattle.reorder.specs.Demand3.{answerAt, Given, RunAlike}
+use Rattle.reorder.proofs.Symmetric.{entries-symmetric}
 use Rattle.reorder.proofs.Whole.{demand-3}
-use Rattle.witness.specs.Met.{one, other, bytes, zeros, Met}
-use Rattle.witness.proofs.Swapped.{same-events, keeps-order}
+use Rattle.witness.specs.Shift.{tally, fires, delivers, loses, shift, exchanged, bytes, zeros}
+use Rattle.witness.specs.Met.{first, second, answer, Met}
 
--- the devices tell them apart
-apart : one ≡ other → ⊥
-apart q = omega (arith, ap (λ (e : Entry). getD (e .body) 0 0) q)
+orders : SameEvents sameEntry shift exchanged × KeepsOrder sameEntry entriesClash shift exchanged
+unfolding computed sameEntry sameParts sameBytes sameBoth ℕ-discrete
+orders = agree-sound sameEntry entriesClash entries-symmetric shift exchanged refl
 
-swapped : Given entriesClash sameEntry counter fresh fresh (bytes one ++ bytes other) (bytes other ++ bytes one) zeros zeros (one ∷ other ∷ []) (other ∷ one ∷ [])
+given : Given entriesClash sameEntry tally fresh fresh (bytes shift) (bytes exchanged) zeros zeros shift exchanged
 unfolding computed
-swapped =
+given =
     record {
       accepted = refl;
       sound = fresh-sound;
@@ -31,9 +41,20 @@ swapped =
       read′ = refl;
       fits = refl;
       fits′ = refl;
-      events = same-events sameEntry one other;
-      order = keeps-order sameEntry one other entriesClash apart refl refl;
+      events = orders .0;
+      order = orders .1;
     }
+
+alike : RunAlike sameEntry shift exchanged first second
+alike = demand-3 sameEntry tally fresh fresh _ _ zeros zeros _ _ given
+
+-- what the first run answers, computed; the second answers alike
+answered : (e : Entry) (k : ℕ) (a : Answer) → k < count sameEntry e shift → answerAt (performed (mainOf tally) fresh shift zeros .space) (place sameEntry e k shift) ≡ a
+    → answer e k ≡ a
+answered e k a h q =
+    sym (alike .answers e k h)
+    ∙ ap (λ (r : Result). answerAt (r .space) (place sameEntry e k shift)) (run-performed tally fresh (bytes shift) zeros shift (given .accepted) fresh-sound (given .read) (given .fits))
+    ∙ q
 
 empty : Given entriesClash sameEntry counter fresh fresh [] [] [] [] [] []
 unfolding computed
@@ -51,12 +72,31 @@ empty =
       order = λ e f c i j hi hj. absurd (omega arith);
     }
 
+one : 0 < 1
+one = omega arith
+
+one-of-two : 0 < 2
+one-of-two = omega arith
+
+two : 1 < 2
+two = omega arith
+
 pub met : Met
+unfolding computed sameEntry sameParts sameBytes sameBoth ℕ-discrete
 met =
     record {
-      differ = λ q. apart (ap (λ (l : List Entry). getD l 0 one) q);
-      swapped = swapped;
-      alike = demand-3 sameEntry counter fresh fresh _ _ zeros zeros _ _ swapped;
+      differ = λ q. omega (arith, ap (λ (l : List Entry). getD (getD l 0 (fires 0) .body) 0 0) q);
+      free = refl;
+      kinds = (refl, refl);
+      clashing = (refl, refl, refl);
+      given = given;
+      alike = alike;
+      copies = (refl, refl, refl);
+      first-copy = (answered (fires 1) 0 _ one-of-two refl, answered (fires 2) 0 _ one-of-two refl);
+      second-copy = (answered (fires 1) 1 _ two refl, answered (fires 2) 1 _ two refl);
+      heard = answered (fires 3) 0 _ one refl;
+      faults = (answered (fires 6) 0 _ one-of-two refl, answered (fires 6) 1 _ two refl);
+      refused = (answered (fires 17) 0 _ one refl, answered (delivers 1 1) 0 _ one refl, answered (loses 1 4) 0 _ one refl);
       empty = empty;
       alike-empty = demand-3 sameEntry counter fresh fresh _ _ _ _ _ _ empty;
     }

@@ -1,37 +1,64 @@
--- What demand 3 is given can be met: by two orders that differ, and by two empty lists. `proofs/Shown.antt` shows it. Definitions only: nothing is assumed.
+-- What demand 3 is given can be met: by two orders of a shift that exchange events of every two kinds, and by two empty lists; and what it concludes, in numbers.
+-- `proofs/Shown.antt` shows it. Definitions only: nothing is assumed.
 use mathlib.Core.Path.{_≡_}
-use mathlib.Core.List.{List, [], _∷_, _++_}
+use mathlib.Core.Bool.{Bool, true, false, _||_}
+use mathlib.Core.List.{List, [], _∷_, _++_, map}
 use Prim.Native.Nat.{ℕ}
-use lib.ListN.{replicate}
 use lib.IntN.{ℤ, pos}
-use Rattle.program.specs.Conditions.{fieldBytes}
+use Rattle.order.specs.Order.{count, place}
+use Rattle.program.specs.Table.{among}
 use Rattle.network.specs.Network.{fresh}
 use Rattle.event.specs.Event.{Entry}
-use Rattle.event.specs.Calls.{run}
+use Rattle.event.specs.Step.{Answer}
+use Rattle.event.specs.Calls.{Result, run}
 use Rattle.paper.specs.Programs.{counter}
 use Rattle.reorder.specs.Clash.{entriesClash}
 use Rattle.reorder.specs.Same.{sameEntry}
-use Rattle.reorder.specs.Demand3.{Given, RunAlike}
+use Rattle.reorder.specs.Demand3.{answerAt, Given, RunAlike}
+use Rattle.witness.specs.Shift.{tally, fires, delivers, loses, links, signals, left, right, shift, exchanged, bytes, zeros}
 
--- fire 1, fire 2
-abbrev pub one : Entry
-one = record { tag = 0x10; body = 1 ∷ [] }
+-- whether some event of l clashes with some event of m
+abbrev pub clashesAny : Entry → List Entry → Bool
+clashesAny e [] = false
+clashesAny e (f ∷ m) = entriesClash e f || clashesAny e m
 
-abbrev pub other : Entry
-other = record { tag = 0x10; body = 2 ∷ [] }
+abbrev pub someClash : List Entry → List Entry → Bool
+someClash [] m = false
+someClash (e ∷ l) m = clashesAny e m || someClash l m
 
-abbrev pub bytes : Entry → List ℕ
-bytes e = fieldBytes (e .tag) (e .body)
+-- whether each of the five kinds of event is in l
+abbrev pub everyKind : List Entry → List Bool
+everyKind l = map (λ t. among t (map (λ e. e .tag) l)) (0x10 ∷ 0x11 ∷ 0x12 ∷ 0x13 ∷ 0x14 ∷ [])
 
-abbrev pub zeros : List ℤ
-zeros = replicate 4 (pos 0)
+-- the two runs, and the answer that the second gives to copy k of e (counted from 0)
+abbrev pub first : Result
+first = run tally fresh (bytes shift) zeros
+
+abbrev pub second : Result
+second = run tally fresh (bytes exchanged) zeros
+
+abbrev pub answer : Entry → ℕ → Answer
+answer e k = answerAt (second .space) (place sameEntry e k exchanged)
 
 pub record Met : Type 0 where
-  pub differ : one ∷ other ∷ [] ≡ other ∷ one ∷ [] → ⊥
-  pub swapped : Given entriesClash sameEntry counter fresh fresh (bytes one ++ bytes other) (bytes other ++ bytes one) zeros zeros (one ∷ other ∷ []) (other ∷ one ∷ [])
-  pub alike : RunAlike sameEntry (one ∷ other ∷ []) (other ∷ one ∷ [])
-      (run counter fresh (bytes one ++ bytes other) zeros)
-      (run counter fresh (bytes other ++ bytes one) zeros)
+  -- the two orders differ: every event of the one stretch has changed places with every event of the other, and both have events of each kind
+  pub differ : shift ≡ exchanged → ⊥
+  pub free : someClash left right ≡ false
+  pub kinds : (everyKind left ≡ true ∷ true ∷ true ∷ true ∷ true ∷ []) × (everyKind right ≡ true ∷ true ∷ true ∷ true ∷ true ∷ [])
+  -- some clash, within a stretch and with what stands behind both, and keep their order
+  pub clashing : (someClash left left ≡ true) × (entriesClash (delivers 1 3) (fires 3) ≡ true) × (entriesClash (signals 3 0 1) (fires 3) ≡ true)
+  -- they are what demand 3 is given, and it concludes
+  pub given : Given entriesClash sameEntry tally fresh fresh (bytes shift) (bytes exchanged) zeros zeros shift exchanged
+  pub alike : RunAlike sameEntry shift exchanged first second
+  -- read off it, of the second run: the second copy of fire 1 and of fire 2 answers 1, where the first answers 0
+  pub copies : (count sameEntry (fires 1) shift ≡ 2) × (place sameEntry (fires 1) 1 shift ≡ 6) × (place sameEntry (fires 1) 1 exchanged ≡ 18)
+  pub first-copy : (answer (fires 1) 0 ≡ (pos 0, pos 0)) × (answer (fires 2) 0 ≡ (pos 0, pos 0))
+  pub second-copy : (answer (fires 1) 1 ≡ (pos 0, pos 1)) × (answer (fires 2) 1 ≡ (pos 0, pos 1))
+  -- the message from 1 was received by 3
+  pub heard : answer (fires 3) 0 ≡ (pos 0, pos 6)
+  -- faults at node 8, both copies; refusals
+  pub faults : (answer (fires 6) 0 ≡ (pos 17, pos 8)) × (answer (fires 6) 1 ≡ (pos 17, pos 8))
+  pub refused : (answer (fires 17) 0 ≡ (pos 14, pos 0)) × (answer (delivers 1 1) 0 ≡ (pos 15, pos 0)) × (answer (loses 1 4) 0 ≡ (pos 16, pos 0))
   -- "empty ones too"
   pub empty : Given entriesClash sameEntry counter fresh fresh [] [] [] [] [] []
   pub alike-empty : RunAlike sameEntry [] [] (run counter fresh [] []) (run counter fresh [] [])
