@@ -13,7 +13,8 @@ use Rattle.event.specs.Event.{fire, deliver, lose, link, signal}
 use Rattle.event.specs.Step.{Answer, digitSet, sensorsOf, heardFrom, pendingTo, plan, doEvent}
 use Rattle.event.proofs.ShownOpened.{doing, neg}
 
--- the numbers of the cells, here only: "Device a owns 529 cells from (a - 1) × 529"; "16: its lit sensors"; "17 + 16 × (b - 1) + i: slot i last heard from b"; "273 + 16 × (b - 1) + i: the message pending from a to b"
+-- the numbers of the cells, here only: "Device a owns 529 cells from (a - 1) × 529"; "16: its lit sensors";
+-- "17 + 16 × (b - 1) + i: slot i last heard from b"; "273 + 16 × (b - 1) + i: the message pending from a to b"
 places : (map sensorsOf (1 ∷ 2 ∷ 16 ∷ []) ≡ 16 ∷ 545 ∷ 7951 ∷ [])
     × (heardFrom 1 1 ≡ 17) × (heardFrom 1 2 ≡ 33) × (heardFrom 2 1 ≡ 546) × (heardFrom 16 15 ≡ 8176)
     × (pendingTo 1 1 ≡ 273) × (pendingTo 1 2 ≡ 289) × (pendingTo 2 1 ≡ 802) × (pendingTo 16 15 ≡ 8432)
@@ -80,6 +81,14 @@ receipts : (main : Expr) → (doEvent main network (deliver 2 1) ≡ (write netw
     × (doEvent main network (deliver 1 3) ≡ (write network ((pendingTo 1 3, pos 0 ∷ replicate 15 mark) ∷ []), silent))
 unfolding doing
 receipts main = (refl, refl)
+
+-- a message without a slot takes with it what was heard: device 1 has heard 7 from device 3
+abbrev heard-before : List ℤ
+heard-before = write (copies 3 freshBlock) ((heardFrom 1 3, pos 30 ∷ pos 7 ∷ []) ∷ (pendingTo 3 1, pos 1 ∷ []) ∷ [])
+
+empty-received : (main : Expr) → doEvent main heard-before (deliver 3 1) ≡ (write (copies 3 freshBlock) ((heardFrom 1 3, pos 30 ∷ []) ∷ []), silent)
+unfolding doing
+empty-received main = refl
 
 -- "0x12 lose a, b: the pending message goes."
 losses : (main : Expr) → (doEvent main network (lose 1 2) ≡ (write network ((pendingTo 1 2, pos 0 ∷ replicate 15 mark) ∷ []), silent))

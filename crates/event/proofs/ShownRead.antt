@@ -2,12 +2,12 @@
 use mathlib.Core.Path.{_≡_, refl}
 use mathlib.Core.List.{List, [], _∷_, _++_, map}
 use mathlib.Core.Option.{Option, none, some}
-use Prim.Native.Nat.{ℕ}
+use Prim.Native.Nat.{ℕ, suc}
 use lib.ListN.{replicate}
 use lib.IntN.{pos}
 use Rattle.number.specs.Number.{mark, floor, inf}
-use Rattle.wire.specs.Wire.{fieldsOf}
-use Rattle.event.specs.Event.{Event, fire, deliver, lose, link, signal, eventOf, readAs, Read, entries, refusedAt, readList, readOne, entriesOf, listVerdict}
+use Rattle.wire.specs.Wire.{Fields, end, cut, whole, fieldsOf}
+use Rattle.event.specs.Event.{Event, fire, deliver, lose, link, signal, eventOf, readAs, Read, entries, refusedAt, before, readFrom, readList, readOne, entriesOf, listVerdict}
 use Rattle.event.proofs.ShownOpened.{reading, neg, entry, bytes}
 
 -- a body under the tags 0x0f to 0x15
@@ -141,3 +141,20 @@ verdicts : (map listVerdict (refusedAt 0 ∷ refusedAt 3 ∷ entries [] ∷ entr
     × (entriesOf (entries (entry 0x10 (1 ∷ []) ∷ [])) ≡ entry 0x10 (1 ∷ []) ∷ [])
 unfolding reading
 verdicts = (refl, refl)
+
+-- no other tag is an event: those that 02 will add, and those whose low bits are an event's
+other-tags : (map (λ t. readAs t (7 ∷ [])) (0x16 ∷ 0x17 ∷ 0x30 ∷ 0x90 ∷ []) ≡ replicate 4 none)
+    × (map (λ t. readAs t (7 ∷ 8 ∷ [])) (0x16 ∷ 0x17 ∷ 0x31 ∷ 0x92 ∷ []) ≡ replicate 4 none)
+    × (map (λ t. readAs t (7 ∷ 8 ∷ 9 ∷ [])) (0x16 ∷ 0x17 ∷ 0x34 ∷ 0x94 ∷ []) ≡ replicate 4 none)
+unfolding reading
+other-tags = (refl, refl, refl)
+
+-- lists of any length, and places of any number
+any-length : (k : ℕ) (rest : Fields) → (readFrom k (whole 0x10 (1 ∷ []) rest) ≡ before (entry 0x10 (1 ∷ [])) (readFrom (suc k) rest))
+    × (readFrom k (whole 0x15 (1 ∷ []) rest) ≡ refusedAt k) × (readFrom k cut ≡ refusedAt k) × (readFrom k end ≡ entries [])
+unfolding reading
+any-length k rest = (refl, refl, refl, refl)
+
+any-bytes : (s : List ℕ) → readList s ≡ readFrom 0 (fieldsOf s)
+unfolding reading
+any-bytes s = refl

@@ -6,11 +6,12 @@ use lib.ListN.{replicate}
 use lib.IntN.{ℤ, pos}
 use Rattle.number.specs.Number.{add, div}
 use Rattle.program.specs.Tree.{Expr, constant, variable, operator, sense, rep}
+use Rattle.order.specs.Order.{lastNet, answers}
 use Rattle.network.specs.Cells.{store, write}
 use Rattle.network.specs.Network.{base, copies, freshBlock, soundness}
 use Rattle.event.specs.Event.{Entry}
-use Rattle.event.specs.Step.{sensorsOf, heardFrom, pendingTo}
-use Rattle.event.specs.Calls.{Result, performed, oneEvent, run}
+use Rattle.event.specs.Step.{sensorsOf, heardFrom, pendingTo, step}
+use Rattle.event.specs.Calls.{flat, Result, performed, oneEvent, run}
 use Rattle.event.proofs.ShownOpened.{calling, entry, bytes}
 
 -- (rep x 0 (+ x 1)); the cells of the devices 1 and 2 as when fresh
@@ -64,6 +65,11 @@ no-event : (main : Expr) (n space : List ℤ) → performed main n [] space ≡ 
 unfolding calling
 no-event main n space = refl
 
+-- lists of any length: the network that the last event left, and every answer
+any-run : (main : Expr) (n : List ℤ) (l : List Entry) (space : List ℤ) → performed main n l space ≡ done (lastNet (step main) n l) (store space 0 (flat (answers (step main) n l)))
+unfolding calling
+any-run main n l space = refl
+
 -- Calls of the program that is the constant 7, on any sound network: "0 and 0 when it did its work"
 abbrev seven : List ℕ
 seven = bytes 1 (0 ∷ 0 ∷ 0 ∷ 0 ∷ 7 ∷ []) ++ bytes 3 (0 ∷ [])
@@ -72,7 +78,8 @@ abbrev links : ℕ → ℕ → ℕ → List ℕ
 links a b d = bytes 0x13 (a ∷ b ∷ 0 ∷ 0 ∷ 0 ∷ d ∷ [])
 
 module _ (n : List ℤ) (sound : soundness n ≡ (0, 0)) where
-  runs : (run seven n (links 1 2 7 ++ (links 0 2 7 ++ links 2 1 8)) (replicate 7 (pos 9)) ≡ done (store (store n (heardFrom 1 2) (pos 7 ∷ [])) (heardFrom 2 1) (pos 8 ∷ [])) (map pos (0 ∷ 0 ∷ 14 ∷ 0 ∷ 0 ∷ 0 ∷ 9 ∷ [])))
+  runs : (run seven n (links 1 2 7 ++ (links 0 2 7 ++ links 2 1 8)) (replicate 7 (pos 9))
+      ≡ done (store (store n (heardFrom 1 2) (pos 7 ∷ [])) (heardFrom 2 1) (pos 8 ∷ [])) (map pos (0 ∷ 0 ∷ 14 ∷ 0 ∷ 0 ∷ 0 ∷ 9 ∷ [])))
       × (run seven n [] (pos 9 ∷ []) ≡ done n (pos 9 ∷ []))
       × (run seven n [] [] ≡ done n [])
   unfolding calling

@@ -1,12 +1,12 @@
 -- The sixteen devices, and fields combined, at examples, by computation. Assumes nothing.
 use mathlib.Core.Path.{_≡_, refl}
 use mathlib.Core.Bool.{true}
-use mathlib.Core.List.{[], _∷_, map}
+use mathlib.Core.List.{List, [], _∷_, map}
 use mathlib.Core.Option.{Option, none, some}
 use Prim.Native.Nat.{ℕ, _+_}
-use lib.ListN.{length}
+use lib.ListN.{length, replicate}
 use lib.IntN.{ℤ, pos, negℤ}
-use Rattle.number.specs.Number.{add, sub, mul, div, lt, gt, ge, eq, ne, result, plus, minus, times, over, brought}
+use Rattle.number.specs.Number.{Operator, add, sub, mul, div, lt, gt, ge, eq, ne, result, plus, minus, times, over, brought}
 use Rattle.field.specs.Field.{devices, from, each, Field, everywhere, resultAt, pointwise}
 
 -- what the examples compute with
@@ -46,8 +46,16 @@ shared-only : (resultAt sub (at 7) (at 2) ≡ at 5) × (resultAt sub (at 7) none
 unfolding opened
 shared-only = (refl, refl, refl, refl)
 
+abbrev operators : List Operator
+operators = add ∷ sub ∷ mul ∷ div ∷ lt ∷ gt ∷ ge ∷ eq ∷ ne ∷ []
+
+-- for each operator: nothing at a device that only one field has
+lone : (map (λ o. resultAt o (at 7) none) operators ≡ replicate 9 none) × (map (λ o. resultAt o none (at 7)) operators ≡ replicate 9 none)
+unfolding opened
+lone = (refl, refl)
+
 -- the left field's number is the left operand, for each operator
-left-right : map (λ o. resultAt o (at 7) (at 2)) (add ∷ sub ∷ mul ∷ div ∷ lt ∷ gt ∷ ge ∷ eq ∷ ne ∷ []) ≡ at 9 ∷ at 5 ∷ at 14 ∷ at 3 ∷ at 0 ∷ at 1 ∷ at 1 ∷ at 0 ∷ at 1 ∷ []
+left-right : map (λ o. resultAt o (at 7) (at 2)) operators ≡ at 9 ∷ at 5 ∷ at 14 ∷ at 3 ∷ at 0 ∷ at 1 ∷ at 1 ∷ at 0 ∷ at 1 ∷ []
 unfolding opened
 left-right = refl
 

@@ -79,3 +79,8 @@ lengths-differ : (faultsIn div [] (at 0 ∷ []) ≡ false) × (faultsIn div (at 
     × (faultsIn div (at 5 ∷ at 5 ∷ []) (at 1 ∷ []) ≡ false)
 unfolding opened
 lengths-differ = (refl, refl, refl, refl)
+
+-- at all sixteen devices
+every-device : (faultsIn div (everywhere (pos 5)) (everywhere (pos 0)) ≡ true) × (faultsIn div (at 5 ∷ at 5 ∷ []) (at 0 ∷ at 0 ∷ []) ≡ true)
+unfolding opened
+every-device = (refl, refl)

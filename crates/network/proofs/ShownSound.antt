@@ -1,12 +1,13 @@
 -- Which networks are sound, and what is named of the others, at examples, by computation. Assumes nothing.
 use mathlib.Core.Path.{_≡_, refl}
-use mathlib.Core.List.{[], _∷_}
+use mathlib.Core.List.{List, [], _∷_}
 use mathlib.Core.Option.{none, some}
 use Prim.Native.Nat.{ℕ, _+_, _-_}
 use lib.ListN.{take, set}
-use lib.IntN.{pos}
+use lib.IntN.{ℤ, pos}
 use Rattle.number.specs.Number.{mark}
-use Rattle.network.specs.Network.{sensorsAt, networkSize, base, copies, freshBlock, fresh, heardSound, pendingSound, cellSound, firstNot, lowestUnsound, unsoundAt, soundness}
+use Rattle.network.specs.Cells.{write}
+use Rattle.network.specs.Network.{sensorsAt, heardAt, pendingAt, networkSize, base, copies, freshBlock, fresh, heardSound, pendingSound, cellSound, firstNot, lowestUnsound, unsoundAt, soundness}
 
 -- what the examples compute with
 unfoldable opened : ℕ → ℕ
@@ -31,3 +32,17 @@ whole-network = (refl, refl)
 lowest-named : (soundness (set fresh sensorsAt (pos 65536)) ≡ (11, 16)) × (soundness (set (set fresh (networkSize - 1) (pos 0)) (base 2 + sensorsAt) mark) ≡ (11, 545))
 unfolding opened
 lowest-named = (refl, refl)
+
+-- a network in use is sound: device 1 has variables, lit sensors, a link to 2 and none back, a slot heard from 2 and one from 3 without a link, messages to 2, 3 and 4
+in-use : soundness (
+    write fresh (
+    (0, pos 7 ∷ pos 8 ∷ [])
+    ∷ (sensorsAt, pos 3 ∷ [])
+    ∷ (heardAt 2, pos 5 ∷ pos 9 ∷ [])
+    ∷ (heardAt 3 + 1, pos 4 ∷ [])
+    ∷ (pendingAt 2, pos 1 ∷ pos 9 ∷ [])
+    ∷ (pendingAt 3, pos 1 ∷ [])
+    ∷ (pendingAt 4, pos 1 ∷ [])
+    ∷ [])) ≡ (0, 0)
+unfolding opened
+in-use = refl

@@ -46,11 +46,13 @@ unfolding opened all
 alike = refl
 
 -- "Arithmetic is exact, then brought into floor..inf.": 65,536 × 32,768 = inf; the last number inside, and the first outside, at either end
-brought-in : (times (pos 65536) (pos 32768) ≡ inf) × (times (neg 65536) (pos 32768) ≡ floor) × (plus (pos 2147483646) (pos 1) ≡ inf) × (plus floor (neg 1) ≡ floor) × (minus floor (pos 1) ≡ floor)
+brought-in : (times (pos 65536) (pos 32768) ≡ inf) × (times (neg 65536) (pos 32768) ≡ floor) × (plus (pos 2147483646) (pos 1) ≡ inf)
+    × (plus floor (neg 1) ≡ floor) × (minus floor (pos 1) ≡ floor)
 unfolding opened
 brought-in = (refl, refl, refl, refl, refl)
 
-inside : (brought inf ≡ inf) × (brought floor ≡ floor) × (brought (pos 2147483648) ≡ inf) × (brought mark ≡ floor) × (brought (pos 2147483646) ≡ pos 2147483646) × (brought (neg 2147483646) ≡ neg 2147483646)
+inside : (brought inf ≡ inf) × (brought floor ≡ floor) × (brought (pos 2147483648) ≡ inf) × (brought mark ≡ floor)
+    × (brought (pos 2147483646) ≡ pos 2147483646) × (brought (neg 2147483646) ≡ neg 2147483646)
 unfolding opened
 inside = (refl, refl, refl, refl, refl, refl)
 
@@ -87,3 +89,22 @@ zero-faults = refl
 others-pass : (faults div (pos 1) ≡ false) × (faults div (neg 1) ≡ false) × (faults div inf ≡ false)
 unfolding opened
 others-pass = (refl, refl, refl)
+
+-- two infs; a negative number first, where a quotient is exact
+two-infs : all inf inf ≡ inf ∷ inf ∷ inf ∷ inf ∷ pos 0 ∷ pos 0 ∷ pos 1 ∷ pos 1 ∷ pos 0 ∷ []
+unfolding opened all
+two-infs = refl
+
+negative-first : (all (neg 8) (pos 2) ≡ neg 6 ∷ neg 10 ∷ neg 16 ∷ neg 4 ∷ pos 1 ∷ pos 0 ∷ pos 0 ∷ pos 0 ∷ pos 1 ∷ [])
+    × (all (neg 8) (neg 2) ≡ neg 10 ∷ neg 6 ∷ pos 16 ∷ pos 4 ∷ pos 1 ∷ pos 0 ∷ pos 0 ∷ pos 0 ∷ pos 1 ∷ [])
+unfolding opened all
+negative-first = (refl, refl)
+
+-- × by the signs of both sides, inf on the right too; floor counts as the number it is in + - /
+signs : (times (pos 0) inf ≡ pos 0) × (times (neg 1) inf ≡ floor) × (times (neg 65536) (neg 32768) ≡ inf) × (times (pos 65536) (neg 32768) ≡ floor)
+unfolding opened
+signs = (refl, refl, refl, refl)
+
+floors : (plus floor (pos 5) ≡ neg 2147483642) × (minus (neg 5) floor ≡ pos 2147483642) × (minus floor (neg 5) ≡ neg 2147483642) × (over floor floor ≡ pos 1) × (over inf floor ≡ floor)
+unfolding opened
+floors = (refl, refl, refl, refl, refl)

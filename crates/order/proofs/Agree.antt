@@ -1,4 +1,5 @@
--- Whether one list is an order of another in which clashing events keep their order, by computation: it says yes exactly then.
+-- Whether one list is an order of another in which clashing events keep their order, by computation: it says yes exactly then, where clashing does not depend on which
+-- of the two is named first.
 use mathlib.Core.Path.{_≡_, refl, sym, ap, _∙_}
 use mathlib.Core.Logic.{_↔_, _⊎_, inl, inr, ite, if-pos, if-neg}
 use mathlib.Core.HLevel.{Discrete}
@@ -34,6 +35,7 @@ module _ {Event : Type 0} (same : Discrete Event) (clash : Event → Event → B
   agree [] (y ∷ m) = false
   agree (e ∷ l) m = onTaken (taken e m) (λ r. agree l r)
 
+  -- what `taken` found: m is a, e and b, where a has no e and nothing that clashes with it
   record Lifted (e : Event) (m r : List Event) : Type 0 where
     pub a : List Event
     pub b : List Event
@@ -125,11 +127,9 @@ module _ {Event : Type 0} (same : Discrete Event) (clash : Event → Event → B
       longer-order : KeepsOrder same clash l (a ++ b) → KeepsOrder same clash (e ∷ l) (a ++ e ∷ b)
       longer-order o f g c i j hi hj = go (copy-of e f i (count same f l) (same f e) hi) (copy-of e g j (count same g l) (same g e) hj)
         where
-          Goal : Type 0
-          Goal = (place same f i (e ∷ l) < place same g j (e ∷ l)) ↔ (place same f i (a ++ e ∷ b) < place same g j (a ++ e ∷ b))
-
           go : ((f ≡ e) × (i ≡ 0)) ⊎ ((k : ℕ) × (i ≡ later same e f k) × (k < count same f l))
-              → ((g ≡ e) × (j ≡ 0)) ⊎ ((k : ℕ) × (j ≡ later same e g k) × (k < count same g l)) → (place same f i (e ∷ l) < place same g j (e ∷ l)) ↔ (place same f i (a ++ e ∷ b) < place same g j (a ++ e ∷ b))
+              → ((g ≡ e) × (j ≡ 0)) ⊎ ((k : ℕ) × (j ≡ later same e g k) × (k < count same g l))
+              → (place same f i (e ∷ l) < place same g j (e ∷ l)) ↔ (place same f i (a ++ e ∷ b) < place same g j (a ++ e ∷ b))
           go (inl (p, q)) (inl (r, s)) = rw (p, q, r, s) (λ h. absurd (omega arith), λ h. absurd (omega arith))
           go (inl (p, q)) (inr (k, s, h)) =
               let ce : clash e g ≡ true = rw p at c in

@@ -1,12 +1,14 @@
 -- Copies, places, orders and runs at examples, by computation. Assumes nothing. An event is a number here.
 use mathlib.Core.Path.{_≡_, refl, sym, ap}
 use mathlib.Core.Logic.{ite}
-use mathlib.Core.Bool.{Bool, true, false, true≢false}
+use mathlib.Core.HLevel.{Discrete}
+use mathlib.Core.Bool.{Bool, true, false, _&&_, true≢false}
 use mathlib.Core.List.{List, [], _∷_}
 use mathlib.Core.Option.{none, some}
 use Prim.Native.Nat.{ℕ, suc, _+_, _*_, _<_}
 use native.Mathlib.Decide.{ℕ-discrete}
 use native.Mathlib.Omega.{arith}
+use lib.Dec.{eqb}
 use Rattle.order.specs.Order.{count, place, SameEvents, KeepsOrder, lastNet, answers, answerOf, Commute, RunAlike}
 
 abbrev l : List ℕ
@@ -21,6 +23,15 @@ places : (place ℕ-discrete 7 0 l ≡ 0) × (place ℕ-discrete 7 1 l ≡ 2) ×
     × (place ℕ-discrete 7 1 (8 ∷ 7 ∷ 7 ∷ []) ≡ 2)
 unfolding ℕ-discrete
 places = (refl, refl, refl, refl, refl, refl, refl)
+
+-- of any list, and of a third and a fourth copy
+any-list : (same : Discrete ℕ) (e x k : ℕ) (l : List ℕ) → (count same e (x ∷ l) ≡ ite (same e x) (suc (count same e l)) (count same e l))
+    × (place same e (suc k) (x ∷ l) ≡ suc (ite (same e x) (place same e k l) (place same e (suc k) l)))
+any-list same e x k l = (refl, refl)
+
+later-copies : (count ℕ-discrete 7 (7 ∷ 7 ∷ 8 ∷ 7 ∷ []) ≡ 3) × (place ℕ-discrete 7 2 (7 ∷ 7 ∷ 8 ∷ 7 ∷ 7 ∷ []) ≡ 3) × (place ℕ-discrete 7 3 (7 ∷ 7 ∷ 8 ∷ 7 ∷ 7 ∷ []) ≡ 4)
+unfolding ℕ-discrete
+later-copies = (refl, refl, refl)
 
 -- "if every event .. stands equally often in both": not where one has a copy more, in either list
 copy-more : SameEvents ℕ-discrete (7 ∷ 8 ∷ []) l → ⊥
@@ -70,6 +81,14 @@ later-copy-of-one : KeepsOrder ℕ-discrete every (7 ∷ 7 ∷ 8 ∷ []) l → �
 unfolding ℕ-discrete
 later-copy-of-one h = let q : 2 < 1 = h 7 8 refl 1 0 two one .0 two in omega arith
 
+-- it is the two that must clash, and not one of them with itself: here 7 clashes with 8 and nothing else does
+abbrev seven-with-8 : ℕ → ℕ → Bool
+seven-with-8 e f = eqb e 7 && eqb f 8
+
+the-two-clash : KeepsOrder ℕ-discrete seven-with-8 (7 ∷ 8 ∷ []) (8 ∷ 7 ∷ []) → ⊥
+unfolding ℕ-discrete
+the-two-clash h = let q : 1 < 0 = h 7 8 refl 0 0 one one .0 one in omega arith
+
 -- and nothing more is asked: those that do not clash may stand in any order, copies that are not there have none, and one list keeps its own
 free : KeepsOrder ℕ-discrete never (7 ∷ 8 ∷ []) (8 ∷ 7 ∷ [])
 free e f c i j hi hj = absurd (true≢false (sym c))
@@ -113,5 +132,5 @@ commute : Commute {Answer = ℕ} (λ n e. (n + e, e)) 1 7 8
 commute = (refl, refl, refl)
 
 alike : (step : ℕ → ℕ → ℕ × ℕ) (m : List ℕ) → RunAlike step ℕ-discrete 1 l m
-    → (lastNet step 1 l ≡ lastNet step 1 m) × (answerOf step ℕ-discrete 1 l 7 1 ≡ answerOf step ℕ-discrete 1 m 7 1)
-alike step m h = (h .0, h .1 7 1)
+    → (lastNet step 1 l ≡ lastNet step 1 m) × ((e k : ℕ) → answerOf step ℕ-discrete 1 l e k ≡ answerOf step ℕ-discrete 1 m e k)
+alike step m h = (h .0, λ e k. h .1 e k)

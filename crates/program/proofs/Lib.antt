@@ -33,3 +33,4 @@ pub mod ShownSortRules
 pub mod ShownTreeRules
 pub mod ShownBytes
 pub mod ShownMeets
+pub mod ShownSeveral

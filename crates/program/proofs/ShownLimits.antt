@@ -4,7 +4,7 @@ use mathlib.Core.List.{List, [], _∷_, _++_, map}
 use Prim.Native.Nat.{ℕ, zero, suc}
 use lib.ListN.{replicate}
 use Rattle.wire.specs.Wire.{fieldsOf}
-use Rattle.program.specs.Table.{Table, firstOf, nodeRows, definitionRows, Loaded, loadFrom}
+use Rattle.program.specs.Table.{Table, firstOf, nodeRows, definitionRows, mainRows, Loaded, loadFrom}
 use Rattle.program.specs.Check.{check}
 use Rattle.program.proofs.Shown.{opened, field, node, define, pass}
 
@@ -65,3 +65,12 @@ without-a-byte = refl
 definition-31 : (firstOf (nodeRows (defining 32) 12 (31 ∷ [])) ≡ 0) × (firstOf (nodeRows (defining 32) 11 (31 ∷ 1 ∷ 2 ∷ [])) ≡ 0) × (firstOf (nodeRows (defining 32) 12 (32 ∷ [])) ≡ 4)
 unfolding opened defining
 definition-31 = (refl, refl, refl)
+
+-- the limits are of nodes and of definitions each by themselves: the 256th node behind 32 definitions, the 32nd definition and the main node behind 256 nodes; any of them may be named
+abbrev holds : ℕ → ℕ → Table
+holds n d = record { nodes = replicate n (record { kind = 1; values = 0 ∷ [] }); definitions = replicate d (record { count = 0; body = 0 }) }
+
+at-the-limits : map firstOf (nodeRows (holds 255 32) 1 (0 ∷ []) ∷ nodeRows (holds 255 32) 4 (254 ∷ []) ∷ definitionRows (holds 256 31) (0 ∷ 254 ∷ []) ∷ mainRows (holds 256 32) (255 ∷ [])
+    ∷ nodeRows (holds 255 32) 4 (255 ∷ []) ∷ mainRows (holds 255 32) (255 ∷ []) ∷ []) ≡ 0 ∷ 0 ∷ 0 ∷ 0 ∷ 4 ∷ 4 ∷ []
+unfolding opened
+at-the-limits = refl

@@ -1,9 +1,11 @@
 -- Which events clash, among all events of three devices, by computation: these and no others. Assumes nothing.
--- A request that adds an event adds it to `all`, one that adds a clash adds it to the rows.
+-- The rows say it of device 1 and of the pairs 1, 2 and 1, 1; the squares, that it does not depend on the numbers of the devices, the sensors, the switch or the distance.
+-- A request that adds an event adds it to `all` and to `renamed`, one that adds a clash adds it to the rows.
 use mathlib.Core.Path.{_≡_, refl}
 use mathlib.Core.Bool.{Bool, true, false, cond, _||_}
 use mathlib.Core.List.{List, [], _∷_, _++_, map}
-use Prim.Native.Nat.{ℕ}
+use Prim.Native.Nat.{ℕ, _+_}
+use lib.Dec.{eqb}
 use lib.IntN.{ℤ, pos}
 use Rattle.number.specs.Number.{mark}
 use Rattle.event.specs.Event.{Event, fire, deliver, lose, link, signal, Entry, eventOf, readAs}
@@ -83,7 +85,53 @@ signals : (clashing (signal 1 0 1) ≡ signalling) × (clashingBack (signal 1 0 
 unfolding chosen clashing clashingBack signalling
 signals = (refl, refl, refl)
 
+-- of a device and itself, which is refused with 15: still by the pair, the sender and the hearer (D12)
+abbrev own : List Event
+own = fire 1 ∷ deliver 1 1 ∷ lose 1 1 ∷ []
+
+to-itself : (clashing (deliver 1 1) ≡ own) × (clashingBack (deliver 1 1) ≡ own) × (clashing (lose 1 1) ≡ own) × (clashingBack (lose 1 1) ≡ own)
+    × (clashing (link 1 1 mark) ≡ fire 1 ∷ link 1 1 (pos 10) ∷ link 1 1 mark ∷ [])
+unfolding chosen clashing clashingBack
+to-itself = (refl, refl, refl, refl, refl)
+
+-- the same events of other devices, sensors, switches and distances
+renamed : (ℕ → ℕ) → (ℕ → ℕ) → (ℕ → ℕ) → (ℤ → ℤ) → Event → Event
+renamed r s v d (fire a) = fire (r a)
+renamed r s v d (deliver a b) = deliver (r a) (r b)
+renamed r s v d (lose a b) = lose (r a) (r b)
+renamed r s v d (link a b w) = link (r a) (r b) (d w)
+renamed r s v d (signal a t u) = signal (r a) (s t) (v u)
+
+square : (Event → Event) → List (List Bool)
+square g = map (λ e. map (λ f. clash (g e) (g f)) all) all
+
+abbrev same : {A : Type 0} → A → A
+same x = x
+
+-- devices 1, 2, 3 as 2, 3, 1; as 2, 1, 3; as 17, 18, 19, which are refused with 14
+abbrev turned : ℕ → ℕ
+turned a = cond (eqb a 3) 1 (a + 1)
+
+abbrev exchanged : ℕ → ℕ
+exchanged a = cond (eqb a 1) 2 (cond (eqb a 2) 1 a)
+
+by-devices : (square (renamed turned same same same) ≡ square same) × (square (renamed exchanged same same same) ≡ square same) × (square (renamed (λ a. a + 16) same same same) ≡ square same)
+unfolding square renamed
+by-devices = (refl, refl, refl)
+
+-- sensors 0 and 1 as 16 and 17, switches 0 and 1 as 2 and 3, both refused with 14; any distance, the mark too, as 20
+by-sensors : (square (renamed same (λ s. s + 16) same same) ≡ square same) × (square (renamed same same (λ v. v + 2) same) ≡ square same)
+unfolding square renamed
+by-sensors = (refl, refl)
+
+by-distances : (square (renamed same same same (λ d. pos 20)) ≡ square same) × (clash (link 1 2 (pos 10)) (link 1 2 (pos 20)) ≡ true) × (clash (link 1 2 (pos 10)) (link 1 3 (pos 10)) ≡ false)
+unfolding square renamed
+by-distances = (refl, refl, refl)
+
 -- entries clash as their events do; one that is no event stands for a fire of no device
+of-entries : (e f : Entry) → entriesClash e f ≡ clash (eventOf e) (eventOf f)
+of-entries e f = refl
+
 abbrev entry : ℕ → List ℕ → Entry
 entry tag body = record { tag = tag; body = body }
 

@@ -3,7 +3,7 @@ use mathlib.Core.Path.{_≡_, refl}
 use mathlib.Core.HLevel.{Discrete}
 use mathlib.Core.Bool.{Bool, true, false}
 use mathlib.Core.List.{List, [], _∷_}
-use Prim.Native.Nat.{ℕ, _<_}
+use Prim.Native.Nat.{ℕ, _+_, _*_, _<_}
 use native.Mathlib.Decide.{ℕ-discrete}
 use lib.ListN.{getD}
 use lib.IntN.{ℤ, pos}
@@ -19,6 +19,9 @@ use Rattle.reorder.specs.Same.{sameBytes, sameParts, sameBoth, sameEntry
 -- an answer is the two numbers at its place
 answers : (answerAt (pos 0 ∷ pos 5 ∷ pos 17 ∷ pos 3 ∷ []) 0 ≡ (pos 0, pos 5)) × (answerAt (pos 0 ∷ pos 5 ∷ pos 17 ∷ pos 3 ∷ []) 1 ≡ (pos 17, pos 3))
 answers = (refl, refl)
+
+any-place : (space : List ℤ) (p : ℕ) → answerAt space p ≡ (getD space (2 * p) (pos 0), getD space (2 * p + 1) (pos 0))
+any-place space p = refl
 
 module _ (same : Discrete Entry) (l m : List Entry) (r q : Result) (h : RunAlike same l m r q) where
   -- "both return 0 and 0, end with every cell equal"

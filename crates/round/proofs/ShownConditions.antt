@@ -4,8 +4,8 @@ use mathlib.Core.List.{List, [], _∷_, _++_, map}
 use Prim.Native.Nat.{ℕ}
 use lib.ListN.{replicate}
 use lib.IntN.{ℤ, pos}
-use Rattle.number.specs.Number.{mark, add, eq, inf}
-use Rattle.program.specs.Tree.{Expr, constant, variable, operator, rep, branch, mux, nbr, foldOp}
+use Rattle.number.specs.Number.{mark, floor, inf, add, eq}
+use Rattle.program.specs.Tree.{Expr, constant, variable, operator, rep, branch, mux, nbr, range, foldOp}
 use Rattle.round.specs.Round.{State, Outcome, number, done, fault}
 use Rattle.round.proofs.ShownCells.{opened, neg, number-of, divides, keeps, reads, unsent, state, start, full, in-state, outcome}
 
@@ -105,3 +105,19 @@ update-part = (refl, refl)
 variables-read : map (λ v. in-state (state full unsent) (variable 5 v)) (0 ∷ 1 ∷ 14 ∷ 15 ∷ []) ≡ map (λ n. done (number (pos n)) (state full unsent)) (0 ∷ 1 ∷ 14 ∷ 15 ∷ [])
 unfolding opened
 variables-read = refl
+
+-- "an if has its branches' one sort": an if of two fields is the field that is taken, and sends what that sends
+if-of-fields : (outcome (branch (number-of 1) (nbr 1 (number-of 5)) (range 2)) ≡ outcome (nbr 1 (number-of 5)))
+    × (outcome (branch (number-of 0) (nbr 1 (number-of 5)) (range 2)) ≡ outcome (range 2))
+unfolding opened
+if-of-fields = (refl, refl)
+
+-- a variable that holds -1, floor or inf is not absent, and these are stored as they are
+any-number-held : map (λ z. in-state (state (z ∷ replicate 15 mark) unsent) (rep 0 (number-of 20) (number-of 7))) (neg 1 ∷ floor ∷ inf ∷ [])
+    ≡ replicate 3 (done (number (pos 7)) (state (pos 7 ∷ replicate 15 mark) unsent))
+unfolding opened
+any-number-held = refl
+
+any-number-stored : map (λ z. outcome (rep 0 (constant z) (number-of 7))) (neg 1 ∷ floor ∷ inf ∷ []) ≡ map (λ z. done (number z) (state (z ∷ replicate 15 mark) unsent)) (neg 1 ∷ floor ∷ inf ∷ [])
+unfolding opened
+any-number-stored = refl

@@ -74,3 +74,8 @@ round-starts : (round counts cells ≡ done (number (pos 41)) (state (mark ∷ p
     × (map (λ p. round (parameter 5 p) cells) (0 ∷ 1 ∷ 2 ∷ 3 ∷ []) ≡ replicate 4 (done (number (pos 0)) (state (mark ∷ pos 40 ∷ replicate 14 mark) unsent)))
 unfolding opened
 round-starts = (refl, refl)
+
+-- a round reads all that its device heard, slot 15 of device 16 too: 6
+last-slot-read : fired (foldOp 9 add (number-of 0) (nbr 15 (number-of 1))) cells .1 ≡ (pos 0, pos 6)
+unfolding opened
+last-slot-read = refl

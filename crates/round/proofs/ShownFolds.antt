@@ -5,9 +5,10 @@ use mathlib.Core.Option.{none, some}
 use Prim.Native.Nat.{ℕ}
 use lib.ListN.{replicate}
 use lib.IntN.{ℤ, pos}
-use Rattle.number.specs.Number.{mark, add, sub, mul, gt, div, Operator}
+use Rattle.number.specs.Number.{mark, inf, add, sub, mul, gt, div, Operator}
+use Rattle.field.specs.Field.{Field, everywhere}
 use Rattle.program.specs.Tree.{Expr, nothing, parameter, operator, sense, nbr, foldOp, foldDef, call}
-use Rattle.round.specs.Round.{Outcome, number, done, fault, stored, folded}
+use Rattle.round.specs.Round.{State, Outcome, thenNumber, onNumbers, number, done, fault, stored, folded}
 use Rattle.round.proofs.ShownCells.{opened, number-of, divides, keeps, reads, unsent, state, start, outcome}
 
 -- the field of slot 1, by the cells: device 1 with 7, device 3 with -1, device 16 with 0. It sends 5, and a fold of it gives n
@@ -117,3 +118,20 @@ arguments-read = (refl, refl)
 fault-in-definition : outcome (call (operator 8 div (number-of 1) (parameter 6 0)) (number-of 0) nothing nothing nothing) ≡ fault 8
 unfolding opened
 fault-in-definition = refl
+
+-- as many steps as there are devices, all sixteen, and whatever the function, the number and the rest; also where inf comes on the way: 1 × inf × 0, 3 + inf
+abbrev folding : Operator → Field → ℕ → Outcome
+folding o f n = folded (λ x y s. onNumbers 5 o x y s) f (pos n) start
+
+sixteen-steps : folding sub (everywhere (pos 1)) 100 ≡ done (number (pos 84)) start
+unfolding opened
+sixteen-steps = refl
+
+any-step : (f : ℤ → ℤ → State → Outcome) (y x : ℤ) (g : Field) (s : State)
+    → (folded f (some y ∷ g) x s ≡ thenNumber (f x y s) (λ z u. folded f g z u)) × (folded f (none ∷ g) x s ≡ folded f g x s)
+unfolding opened
+any-step f y x g s = (refl, refl)
+
+steps-with-inf : (folding mul (some inf ∷ some (pos 0) ∷ []) 1 ≡ done (number (pos 0)) start) × (folding add (some inf ∷ []) 3 ≡ done (number inf) start)
+unfolding opened
+steps-with-inf = (refl, refl)

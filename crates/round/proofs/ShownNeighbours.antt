@@ -1,13 +1,16 @@
 -- Nbr and nbr-range, by computation. Assumes nothing.
 use mathlib.Core.Path.{_≡_, refl}
-use mathlib.Core.List.{List, [], _∷_, _++_}
+use mathlib.Core.List.{List, [], _∷_, _++_, map}
+use Prim.Native.Nat.{_+_}
 use mathlib.Core.Option.{none, some}
 use lib.ListN.{replicate}
 use lib.IntN.{ℤ, pos}
-use Rattle.number.specs.Number.{mark, add}
+use Rattle.number.specs.Number.{mark, floor, inf, add}
 use Rattle.field.specs.Field.{Field}
 use Rattle.program.specs.Tree.{constant, operator, nbr, range}
-use Rattle.round.specs.Round.{State, field, done}
+use Rattle.network.specs.Cells.{write}
+use Rattle.network.specs.Network.{heardAt, freshBlock}
+use Rattle.round.specs.Round.{State, field, done, heardIn}
 use Rattle.round.proofs.ShownCells.{opened, neg, number-of, keeps, reads, nowhere, state, outcome}
 
 -- nothing stored, and this sent
@@ -62,3 +65,12 @@ sent-stays : outcome (operator 5 add (nbr 1 (number-of 5)) (range 2))
     ≡ done (field (some (pos 17) ∷ replicate 14 none ++ some (pos 1000000) ∷ [])) (sent (mark ∷ pos 5 ∷ pos 0 ∷ replicate 13 mark))
 unfolding opened
 sent-stays = refl
+
+-- any number is heard, and sent, as it is: floor and inf
+any-number-heard : heardIn (write freshBlock ((heardAt 2 + 1, floor ∷ []) ∷ (heardAt 9 + 1, inf ∷ []) ∷ [])) 1 ≡ none ∷ some floor ∷ replicate 6 none ++ some inf ∷ replicate 7 none
+unfolding opened
+any-number-heard = refl
+
+any-number-sent : map (λ z. outcome (nbr 4 (constant z))) (floor ∷ inf ∷ []) ≡ map (λ z. done (field nowhere) (sent (replicate 4 mark ++ z ∷ replicate 11 mark))) (floor ∷ inf ∷ [])
+unfolding opened
+any-number-sent = refl

@@ -4,7 +4,7 @@ use mathlib.Core.List.{[], _∷_, _++_, map}
 use mathlib.Core.Option.{none, some}
 use lib.ListN.{replicate}
 use lib.IntN.{pos}
-use Rattle.number.specs.Number.{mark, sub, div}
+use Rattle.number.specs.Number.{mark, add, sub, mul, div, lt, gt, ge, eq, ne}
 use Rattle.field.specs.Field.{Field, everywhere}
 use Rattle.program.specs.Tree.{constant, parameter, operator, sense}
 use Rattle.round.specs.Round.{Value, Outcome, number, field, done, fault, operated, sensed}
@@ -102,3 +102,9 @@ unsound-lit = (refl, refl)
 sensor-number : (outcome (sense (reads 0)) ≡ done (number (pos 1)) start) × (outcome (sense (keeps 0)) ≡ done (number (pos 0)) (state (pos 50 ∷ replicate 15 mark) unsent))
 unfolding opened
 sensor-number = (refl, refl)
+
+-- each operator on two fields is pointwise: 7 and 2 at device 1
+each-operator : map (λ o. operated 5 o (field three) (field two) start) (add ∷ sub ∷ mul ∷ div ∷ lt ∷ gt ∷ ge ∷ eq ∷ ne ∷ [])
+    ≡ map (λ n. gives (some (pos n) ∷ replicate 15 none)) (9 ∷ 5 ∷ 14 ∷ 3 ∷ 0 ∷ 1 ∷ 1 ∷ 0 ∷ 1 ∷ [])
+unfolding opened
+each-operator = refl

@@ -1,9 +1,9 @@
 -- Bytes read as numbers and as fields, at examples, by computation. Assumes nothing.
 use mathlib.Core.Path.{_≡_, refl}
 use mathlib.Core.List.{List, [], _∷_, _++_}
-use Prim.Native.Nat.{ℕ}
+use Prim.Native.Nat.{ℕ, zero, suc}
 use lib.ListN.{replicate}
-use Rattle.wire.specs.Wire.{end, cut, whole, bigFrom, big, fieldsIn, fieldsOf}
+use Rattle.wire.specs.Wire.{Fields, end, cut, whole, bigFrom, big, fieldsIn, fieldsOf}
 
 -- what the examples compute with
 unfoldable opened : ℕ → ℕ
@@ -67,3 +67,16 @@ cut-behind-whole : (fieldsOf (3 ∷ 0 ∷ 0 ∷ 1 ∷ []) ≡ whole 3 [] cut) ×
     × (fieldsOf (1 ∷ 0 ∷ 1 ∷ 7 ∷ 2 ∷ 0 ∷ 0 ∷ 3 ∷ 0 ∷ 2 ∷ 8 ∷ []) ≡ whole 1 (7 ∷ []) (whole 2 [] cut))
 unfolding opened
 cut-behind-whole = (refl, refl, refl)
+
+-- as many fields as there are, and bodies of any length: 1,100 fields, a body of 4,097 bytes
+abbrev heads : ℕ → List ℕ
+heads zero = []
+heads (suc k) = 3 ∷ 0 ∷ 0 ∷ heads k
+
+abbrev wholes : ℕ → Fields
+wholes zero = end
+wholes (suc k) = whole 3 [] (wholes k)
+
+many : (fieldsOf (heads 1100) ≡ wholes 1100) × (fieldsOf (1 ∷ 16 ∷ 1 ∷ long 4097) ≡ whole 1 (long 4097) end)
+unfolding opened long
+many = (refl, refl)

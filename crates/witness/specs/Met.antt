@@ -3,13 +3,14 @@
 use mathlib.Core.Path.{_≡_}
 use mathlib.Core.Bool.{Bool, true, false, _||_}
 use mathlib.Core.List.{List, [], _∷_, _++_, map}
-use Prim.Native.Nat.{ℕ}
+use Prim.Native.Nat.{ℕ, _+_}
+use lib.ListN.{getD}
 use lib.IntN.{ℤ, pos}
 use Rattle.order.specs.Order.{count, place}
 use Rattle.program.specs.Table.{among}
-use Rattle.network.specs.Network.{fresh}
+use Rattle.network.specs.Network.{fresh, base}
 use Rattle.event.specs.Event.{Entry}
-use Rattle.event.specs.Step.{Answer}
+use Rattle.event.specs.Step.{Answer, heardFrom, pendingTo}
 use Rattle.event.specs.Calls.{Result, run}
 use Rattle.paper.specs.Programs.{counter}
 use Rattle.reorder.specs.Clash.{entriesClash}
@@ -40,13 +41,18 @@ second = run tally fresh (bytes exchanged) zeros
 abbrev pub answer : Entry → ℕ → Answer
 answer e k = answerAt (second .space) (place sameEntry e k exchanged)
 
+-- a cell after the second run
+abbrev pub cell : ℕ → ℤ
+cell c = getD (second .network) c (pos 0)
+
 pub record Met : Type 0 where
   -- the two orders differ: every event of the one stretch has changed places with every event of the other, and both have events of each kind
   pub differ : shift ≡ exchanged → ⊥
   pub free : someClash left right ≡ false
   pub kinds : (everyKind left ≡ true ∷ true ∷ true ∷ true ∷ true ∷ []) × (everyKind right ≡ true ∷ true ∷ true ∷ true ∷ true ∷ [])
   -- some clash, within a stretch and with what stands behind both, and keep their order
-  pub clashing : (someClash left left ≡ true) × (entriesClash (delivers 1 3) (fires 3) ≡ true) × (entriesClash (signals 3 0 1) (fires 3) ≡ true)
+  pub clashing : (entriesClash (links 1 2 10) (fires 1) ≡ true) × (entriesClash (fires 1) (loses 1 2) ≡ true) × (entriesClash (delivers 1 3) (fires 3) ≡ true)
+      × (entriesClash (signals 3 0 1) (fires 3) ≡ true)
   -- they are what demand 3 is given, and it concludes
   pub given : Given entriesClash sameEntry tally fresh fresh (bytes shift) (bytes exchanged) zeros zeros shift exchanged
   pub alike : RunAlike sameEntry shift exchanged first second
@@ -59,6 +65,8 @@ pub record Met : Type 0 where
   -- faults at node 8, both copies; refusals
   pub faults : (answer (fires 6) 0 ≡ (pos 17, pos 8)) × (answer (fires 6) 1 ≡ (pos 17, pos 8))
   pub refused : (answer (fires 17) 0 ≡ (pos 14, pos 0)) × (answer (delivers 1 1) 0 ≡ (pos 15, pos 0)) × (answer (loses 1 4) 0 ≡ (pos 16, pos 0))
+  -- and cells: device 1's variable is 1, its second message to 2 is pending, 3 has heard 6 from it
+  pub cells : (cell (base 1) ≡ pos 1) × (cell (pendingTo 1 2) ≡ pos 1) × (cell (heardFrom 3 1 + 1) ≡ pos 6)
   -- "empty ones too"
   pub empty : Given entriesClash sameEntry counter fresh fresh [] [] [] [] [] []
   pub alike-empty : RunAlike sameEntry [] [] (run counter fresh [] []) (run counter fresh [] [])
