@@ -1,5 +1,5 @@
 # Rattle's exported functions and #[repr(C)] structs, a declaration a line: in C, in the words of include/cuddystove.h, or with
-# -v rust=1 in Rust, in the words of rust/cuddystove/src/lib.rs.
+# -v rust=1 in Rust, in the words of rust/cuddystove/src/plain.rs.
 function fail(what) { print "tests/declarations.awk: " what > "/dev/stderr"; print "unknown: " what }
 function value(name, t) {
     if (rust) return name ": " t

@@ -4,14 +4,14 @@ use mathlib.Core.Bool.{Bool, true, false, cond}
 use Prim.Native.Nat.{ℕ, zero, suc, _+_, _-_, _*_, _/_, _^_, _≤_, _<_}
 use native.Mathlib.Nat.{le-trans, le-of-lt, lt-of-le-of-lt, div-le-self, mul-le-mul-left, mul-le-mul-right}
 use native.Mathlib.Omega.{arith}
-use lib.Dec.{ltb, lit<}
+use lib.Dec.{eqb, ltb, lit<}
 use lib.IntN.{ℤ, pos, negsuc, negℤ, _+ℤ_, _-ℤ_, _*ℤ_}
 use lib.Signed.{mag, ltZ, quotZ}
 use mir.Syntax.{Width, w32, w64}
 use mir.Val.{SFits, toZ, ofZ}
 use mir.ValLaws.{toZ-ofZ}
 use mir.Facts.{sfits-widen}
-use borrow.Author.Tests.{ltb-false, eq-eqb, ne-eqb}
+use borrow.Author.Tests.{ltb-false, eq-eqb, ne-eqb, eqb-true, eqb-false}
 use Rattle.number.specs.Number.{eqZ, inf, floor}
 
 -- x as the machine reads it back after `x as i64`
@@ -92,6 +92,14 @@ pub same-bits : (w : Width) (x y : ℤ) → SFits w x → SFits w y → ofZ w x 
 same-bits w x y f g e = sym (toZ-ofZ w x f) ∙ ap (toZ w) e ∙ toZ-ofZ w y g
 
 -- between floor and inf, a number fits 32 bits
+-- a test `x == y` of the machine is one of the bits
+pub bits-eq : (x y : ℤ) → SFits w32 x → SFits w32 y → eqb (ofZ w32 x) (ofZ w32 y) ≡ eqZ x y
+bits-eq x y f g = by (eqb (ofZ w32 x) (ofZ w32 y)) refl
+  where
+    by : (t : Bool) → eqb (ofZ w32 x) (ofZ w32 y) ≡ t → t ≡ eqZ x y
+    by true e = sym (eqZ-yes x y (same-bits w32 x y f g (eqb-true _ _ e)))
+    by false e = sym (eqZ-no x y (λ q. eqb-false _ _ e (ap (ofZ w32) q)))
+
 pub within : (z : ℤ) → ltZ inf z ≡ false → ltZ z floor ≡ false → SFits w32 z
 within (pos n) p q = record { sfits = omega (arith, ltb-false 2147483647 n p) }
 within (negsuc n) p q = record { sfits = omega (arith, ltb-false 2147483646 n q) }

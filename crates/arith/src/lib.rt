@@ -4,6 +4,11 @@ ghost use mathlib.Core.Bool.{false};
 ghost use lib.IntN.{pos};
 ghost use Rattle.number.specs.Number.{operatorOf, brought, plus, minus, times, over, result, faults};
 
+// The operators that code asks for by name.
+pub const SUM: u8 = 0;
+
+pub const DIVISION: u8 = 3;
+
 // An exact result brought into floor..inf.
 fn bring(z: i64) -> i32
     ensures { λ r. ⌜ r ≡ brought z ⌝ }
@@ -67,7 +72,7 @@ pub fn div(x: i32, y: i32) -> i32
     bring((x as i64) / (y as i64))
 }
 
-// Any operator but division, which is 3. It stands apart so that it is small enough to be put in place where it is called.
+// Any operator but division. It stands apart so that it is small enough to be put in place where it is called.
 pub fn operate(o: u8, x: i32, y: i32) -> i32
     requires { ⌜ (o ≡ 3 → ⊥) ⌝ }
     ensures { λ r. ⌜ r ≡ result (operatorOf o) x y ⌝ }
@@ -88,7 +93,7 @@ pub fn operate(o: u8, x: i32, y: i32) -> i32
 pub fn zero_divisor(o: u8, y: i32) -> bool
     ensures { λ r. ⌜ r ≡ faults (operatorOf o) y ⌝ }
 {
-    if o == 3 {
+    if o == DIVISION {
         if y == 0 {
             return true;
         }
@@ -101,7 +106,7 @@ pub fn operate_any(o: u8, x: i32, y: i32) -> i32
     requires { ⌜ faults (operatorOf o) y ≡ false ⌝ }
     ensures { λ r. ⌜ r ≡ result (operatorOf o) x y ⌝ }
 {
-    if o == 3 {
+    if o == DIVISION {
         return div(x, y);
     }
     operate(o, x, y)

@@ -8,20 +8,9 @@ use Rattle.verdict.specs.Pair.{pair}
 use Rattle.wire.specs.Wire.{fieldsOf}
 use Rattle.event.specs.Event.{Read, readOne, readList}
 use Rattle.event.specs.Calls.{Result}
-use Rattle.lists.specs.declared.Counted.{Counted}
-use Rattle.lists.specs.declared.Counted.the-variants.{Events, Refused}
 
 abbrev pub result : Verdict → List ℤ → List ℤ → Result
 result v network space = record { verdict = pair v; network = network; space = space }
-
--- of a list that was counted: its verdict, and how many events are to be done
-abbrev pub verdictOf : Counted → ℕ × ℕ
-verdictOf (Events n) = (0, 0)
-verdictOf (Refused k) = (12, k)
-
-abbrev pub eventsIn : Counted → ℕ
-eventsIn (Events n) = n
-eventsIn (Refused k) = 0
 
 -- how each call reads its list: one event, or any number of them
 abbrev pub readBy : Bool → List ℕ → Read

@@ -2,30 +2,7 @@
 ghost use mathlib.Core.Path.{_≡_};
 ghost use Rattle.event.specs.Calls.{carriedOut, oneEvent, run as runOf};
 ghost use Rattle.lists.specs.Listed.{countOf};
-ghost use Rattle.verdict.specs.Pair.{pair};
-ghost use Rattle.calls.specs.Carried.{result, verdictOf, eventsIn, readBy};
-
-const NODES: usize = 256;
-
-// Refusal 12, where the list is refused.
-fn list_verdict(counted: lists::Counted) -> verdict::Verdict
-    ensures { λ r. ⌜ pair r ≡ verdictOf counted ⌝ }
-{
-    match counted {
-        lists::Counted::Events(_) => verdict::accepted(),
-        lists::Counted::Refused(k) => verdict::refused(12, k),
-    }
-}
-
-// How many events there are to be done, none where the list is refused.
-pub fn events_in(counted: lists::Counted) -> usize
-    ensures { λ r. ⌜ r ≡ eventsIn counted ⌝ }
-{
-    match counted {
-        lists::Counted::Events(n) => n,
-        lists::Counted::Refused(_) => 0,
-    }
-}
+ghost use Rattle.calls.specs.Carried.{result, readBy};
 
 // Counts a list of any number of events, or of exactly one.
 fn count(list: &[u8], single: bool) -> lists::Counted
@@ -47,9 +24,9 @@ fn carry_out(
 ) -> verdict::Verdict
     ensures { λ r. ⌜ result r (now (network .exit)) (now (space .exit)) ≡ carriedOut (now (program .entry)) (now (network .entry)) (readBy single (now (list .entry))) (now (space .entry)) ⌝ }
 {
-    let mut ws = [0; NODES];
-    let mut us = [0; NODES];
-    let p = vet::prepare(program, &mut ws, &mut us);
+    let mut ws = [0; layout::NODES];
+    let mut us = [0; layout::NODES];
+    let p = program_check::prepare(program, &mut ws, &mut us);
     if p.number != 0 {
         return verdict::refused(p.number, p.place);
     }
@@ -58,15 +35,13 @@ fn carry_out(
         return sound;
     }
     let counted = count(list, single);
-    let whole = list_verdict(counted);
-    if whole.number != 0 {
-        return whole;
+    if counted.number != 0 {
+        return verdict::refused(counted.number, counted.place);
     }
-    if space.len() / 2 < events_in(counted) {
+    if space.len() / layout::ANSWER < counted.events {
         return verdict::refused(13, 0);
     }
-    perform::perform(&ws, &us, p.main, network, list, space);
-    verdict::accepted()
+    perform::perform(&ws, &us, p.main, network, list, space)
 }
 
 // Does the one event of a list of exactly one field.

@@ -10,40 +10,42 @@ use lib.Seq.{getD-set-same, getD-set-other}
 use lib.Dec.{eqb, ltb}
 use borrow.Author.Tests.{eqb-true, eqb-false, ne-eqb, ltb-true, ltb-false, lt-ltb, le-ltb}
 use Rattle.program.specs.Tree.{cost}
+use Rattle.words.specs.Form.{operatorForm, foldByForm, callForm}
 use Rattle.words.specs.Word.{form, word}
 use Rattle.words.specs.Trees.{treeAt}
-use Rattle.operands.specs.Formed.{nodes, width, operand, part, Formed}
-use Rattle.operands.proofs.Trees.{View, is-0, is-1, is-2, is-3, is-4, is-5, is-6, is-7, is-8, is-9, is-10, is-16, is-17, is-18, is-19, view}
-use Rattle.operands.proofs.Leaves.{Leaf, leaf-0, leaf-1, leaf-2, leaf-17}
-use Rattle.costs.specs.Costs.{capped, bodyCost, Noted, Asks, Gives}
+use Rattle.operands.specs.Formed.{width, operand, part, Formed}
+use Rattle.operands.proofs.Views.{View, is-constant, is-parameter, is-variable, is-operator, is-sense, is-rep, is-if, is-mux, is-fold-by, is-call, is-fold, is-nbr, is-range, is-field-if}
+use Rattle.operands.proofs.Views.{is-field-operator, view}
+use Rattle.operands.proofs.Leaves.{Leaf}
+use Rattle.costs.specs.Costs.{cap, capped, bodyCost, Noted, Asks, Gives}
 
 all-cost : {ws : List ℕ} {n w : ℕ} → View ws n w
     → cost (treeAt ws n) ≡ 1 + cost (part ws w 0) + cost (part ws w 1) + cost (part ws w 2) + cost (part ws w 3) + bodyCost ws w
 unfolding cost width bodyCost
-all-cost (is-0 h e) = rw (e, h)
-all-cost (is-1 h e) = rw (e, h)
-all-cost (is-2 h e) = rw (e, h)
-all-cost (is-3 h e) = rw (e, h) (simp add-zero)
-all-cost (is-4 h e) = rw (e, h) (simp add-zero)
-all-cost (is-5 h e) = rw (e, h) (simp add-zero)
-all-cost (is-6 h e) = rw (e, h) (simp add-zero)
-all-cost (is-7 h e) = rw (e, h) (simp add-zero)
-all-cost (is-8 h e) = rw (e, h) (simp add-zero)
-all-cost (is-9 h e) = rw (e, h)
-all-cost (is-10 h e) = rw (e, h) (simp add-zero)
-all-cost (is-16 h e) = rw (e, h) (simp add-zero)
-all-cost (is-17 h e) = rw (e, h)
-all-cost (is-18 h e) = rw (e, h) (simp add-zero)
-all-cost (is-19 h e) = rw (e, h) (simp add-zero)
+all-cost (is-constant h e) = rw (e, h)
+all-cost (is-parameter h e) = rw (e, h)
+all-cost (is-variable h e) = rw (e, h)
+all-cost (is-operator h e) = rw (e, h) (simp add-zero)
+all-cost (is-sense h e) = rw (e, h) (simp add-zero)
+all-cost (is-rep h e) = rw (e, h) (simp add-zero)
+all-cost (is-if h e) = rw (e, h) (simp add-zero)
+all-cost (is-mux h e) = rw (e, h) (simp add-zero)
+all-cost (is-fold-by h e) = rw (e, h) (simp add-zero)
+all-cost (is-call h e) = rw (e, h)
+all-cost (is-fold h e) = rw (e, h) (simp add-zero)
+all-cost (is-nbr h e) = rw (e, h) (simp add-zero)
+all-cost (is-range h e) = rw (e, h)
+all-cost (is-field-if h e) = rw (e, h) (simp add-zero)
+all-cost (is-field-operator h e) = rw (e, h) (simp add-zero)
 
 capped-once : {x : ℕ} (a b : ℕ) → x ≡ capped a → capped (x + b) ≡ capped (a + b)
 capped-once a b p = omega arith
 
 -- a cost that was counted is at most the cap
-pub at-most : {ws notes : List ℕ} {r c : ℕ} → Gives ws notes r c → r ≤ 1000001
+pub at-most : {ws notes : List ℕ} {r c : ℕ} → Gives ws notes r c → r ≤ cap
 at-most g = omega (arith, g .value)
 
-pub within : {r : ℕ} (x : ℕ) → r ≡ capped x → r ≤ 1000001
+pub within : {r : ℕ} (x : ℕ) → r ≡ capped x → r ≤ cap
 within x e = omega arith
 
 -- the sums of the code, one after the other
@@ -67,7 +69,7 @@ joined {ws} {n} f sum e0 e1 e2 e3 e4 e5 =
     turn s b x0 x1 x2 x3 = omega arith
 
 -- of an operator, which has two operands and no body
-pub operator-joined : {ws : List ℕ} {n s0 s4 s5 : ℕ} → Formed ws n → (sum : ℕ) → form (word ws n) ≡ 3 → s0 ≡ capped (sum + 1)
+pub operator-joined : {ws : List ℕ} {n s0 s4 s5 : ℕ} → Formed ws n → (sum : ℕ) → form (word ws n) ≡ operatorForm → s0 ≡ capped (sum + 1)
     → s4 ≡ capped (s0 + cost (part ws (word ws n) 1))
     → s5 ≡ capped (s4 + cost (part ws (word ws n) 0))
     → s5 ≡ capped (sum + cost (treeAt ws n))
@@ -79,7 +81,7 @@ operator-joined {ws} {n} {s0} f sum h e0 e4 e5 = joined {s1 = s0} {s2 = s0} {s3 
 
 -- ---- what a body adds, by the form
 module _ {ws notes : List ℕ} (w : ℕ) {k : ℕ} (e : k ≡ form w) (sum : ℕ) where
-  pub body-fold : {r x y o : ℕ} → k ≡ 8 → o ≡ operand w 4 → Gives ws notes x (cost (treeAt ws o)) → y ≡ capped (15 * x) → r ≡ capped (sum + y)
+  pub body-fold : {r x y o : ℕ} → k ≡ foldByForm → o ≡ operand w 4 → Gives ws notes x (cost (treeAt ws o)) → y ≡ capped (15 * x) → r ≡ capped (sum + y)
       → Gives ws notes r (sum + bodyCost ws w)
   unfolding bodyCost
   body-fold {r} {x} {y} {o} h eo g ey er =
@@ -88,33 +90,30 @@ module _ {ws notes : List ℕ} (w : ℕ) {k : ℕ} (e : k ≡ form w) (sum : ℕ
       fifteen-more : {r x y : ℕ} (a : ℕ) → r ≡ capped (sum + y) → y ≡ capped (15 * x) → x ≡ capped a → r ≡ capped (sum + 15 * a)
       fifteen-more a p q s = omega arith
 
-  pub body-call : {r x o : ℕ} → k ≡ 9 → o ≡ operand w 4 → Gives ws notes x (cost (treeAt ws o)) → r ≡ capped (sum + x) → Gives ws notes r (sum + bodyCost ws w)
+  pub body-call : {r x o : ℕ} → k ≡ callForm → o ≡ operand w 4 → Gives ws notes x (cost (treeAt ws o)) → r ≡ capped (sum + x) → Gives ws notes r (sum + bodyCost ws w)
   unfolding bodyCost
   body-call {r} {x} {o} h eo g er = record { value = rw (← e, h, ← eo) (more (cost (treeAt ws o)) er (g .value)); noted = g .noted }
     where
       more : {r x : ℕ} (a : ℕ) → r ≡ capped (sum + x) → x ≡ capped a → r ≡ capped (sum + a)
       more a p q = omega arith
 
-  pub body-none : (k ≡ 8 → ⊥) → (k ≡ 9 → ⊥) → Noted ws notes → sum ≤ 1000001 → Gives ws notes sum (sum + bodyCost ws w)
+  pub body-none : (k ≡ foldByForm → ⊥) → (k ≡ callForm → ⊥) → Noted ws notes → sum ≤ cap → Gives ws notes sum (sum + bodyCost ws w)
   unfolding bodyCost
-  body-none h l s m = record { value = rw (← e, ne-eqb k 8 h, ne-eqb k 9 l) (omega arith); noted = s }
+  body-none h l s m = record { value = rw (← e, ne-eqb k foldByForm h, ne-eqb k callForm l) (omega arith); noted = s }
 
 -- ---- an operand's cost
 module _ {ws notes : List ℕ} (w j sum : ℕ) where
   pub part-some : {r o : ℕ} → j < width w → o ≡ operand w j → Gives ws notes r (sum + cost (treeAt ws o)) → Gives ws notes r (sum + cost (part ws w j))
   part-some h eo g = rw (lt-ltb j (width w) h, ← eo) g
 
-  pub part-none : width w ≤ j → Noted ws notes → sum ≤ 1000001 → Gives ws notes sum (sum + cost (part ws w j))
+  pub part-none : width w ≤ j → Noted ws notes → sum ≤ cap → Gives ws notes sum (sum + cost (part ws w j))
   unfolding cost
   part-none h s m = rw (le-ltb j (width w) h) record { value = omega arith; noted = s }
 
 -- a leaf costs 1
 leaf-cost : {ws : List ℕ} {n : ℕ} → Formed ws n → Leaf (word ws n) → cost (treeAt ws n) ≡ 1
-unfolding cost width bodyCost
-leaf-cost f (leaf-0 h) = all-cost (view f) ∙ rw h
-leaf-cost f (leaf-1 h) = all-cost (view f) ∙ rw h
-leaf-cost f (leaf-2 h) = all-cost (view f) ∙ rw h
-leaf-cost f (leaf-17 h) = all-cost (view f) ∙ rw h
+unfolding cost bodyCost
+leaf-cost f l = all-cost (view f) ∙ rw (l .narrow, l .folds, l .calls)
 
 pub part-leaf : {ws notes : List ℕ} (w j sum : ℕ) {r o : ℕ} → j < width w → o ≡ operand w j → Formed ws o → Leaf (word ws o) → r ≡ capped (sum + 1)
     → Noted ws notes → Gives ws notes r (sum + cost (part ws w j))
@@ -153,7 +152,7 @@ module _ {ws notes : List ℕ} {n k o t : ℕ} (m : n * 3 ≡ t) (q : Asks ws no
   lower : Asks ws notes k
   lower = record { formed = q .formed; noted = q .noted; inside = omega (arith, q .inside) }
 
-  pub asks-cost : {sum : ℕ} → sum ≤ 1000001 → (k * 3 + 1 < t) × (Asks ws notes k × (sum ≤ 1000001))
+  pub asks-cost : {sum : ℕ} → sum ≤ cap → (k * 3 + 1 < t) × (Asks ws notes k × (sum ≤ cap))
   asks-cost s = (omega arith, (lower, s))
 
   pub asks-noted : (k * 3 + 2 < t) × Asks ws notes k

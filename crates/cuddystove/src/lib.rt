@@ -5,14 +5,14 @@ ghost use Rattle.network.specs.Network.{freshCall};
 ghost use Rattle.event.specs.Calls.{oneEvent, run};
 ghost use Rattle.verdict.specs.Pair.{pair};
 ghost use Rattle.calls.specs.Carried.{result};
-ghost use Rattle.orders.specs.Both.{Both, first, second};
+ghost use Rattle.both.specs.Both.{Both, first, second};
 
 // Checks a program table: 0 and 0, or the refusal and its place.
 #[no_mangle]
 pub extern "C" fn cuddystove_check(program: &[u8]) -> verdict::Verdict
     ensures { λ r. ⌜ pair r ≡ check (now (program .entry)) ⌝ }
 {
-    vet::check(program)
+    program_check::check(program)
 }
 
 // Makes a network fresh; 11 and 0 where its length is wrong.
@@ -59,8 +59,9 @@ pub extern "C" fn cuddystove_run_both(
     list2: &[u8],
     space1: &mut [i32],
     space2: &mut [i32],
-) -> orders::Verdicts
-    ensures { λ r. ⌜ Both (now (program .entry)) (now (network1 .entry)) (now (network2 .entry)) (now (list1 .entry)) (now (list2 .entry)) (now (space1 .entry)) (now (space2 .entry)) (first r (now (network1 .exit)) (now (space1 .exit))) (second r (now (network2 .exit)) (now (space2 .exit))) ⌝ }
+) -> both::Verdicts
+    ensures { λ r. ⌜ Both (now (program .entry)) (now (network1 .entry)) (now (network2 .entry)) (now (list1 .entry)) (now (list2 .entry)) (now (space1 .entry)) (now (space2 .entry))
+        (first r (now (network1 .exit)) (now (space1 .exit))) (second r (now (network2 .exit)) (now (space2 .exit))) ⌝ }
 {
-    orders::run_both(program, network1, network2, list1, list2, space1, space2)
+    both::run_both(program, network1, network2, list1, list2, space1, space2)
 }

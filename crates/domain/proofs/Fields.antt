@@ -12,10 +12,12 @@ use lib.ListN.{length, getD, set, length-set}
 use lib.Seq.{getD-set-same, getD-set-other}
 use borrow.Author.Count.{below-more}
 use borrow.Author.Tests.{eqb-true, eqb-false}
+use Rattle.program.specs.Table.{among}
+use Rattle.bits.specs.Bits.{hasBit}
 use Rattle.number.specs.Number.{Operator, operatorOf, div, eqZ, result, faults, over}
 use Rattle.field.specs.Field.{Field, from, resultAt, faultsAt, pointwise, faultsIn}
-use Rattle.domain.specs.Held.{inDomain, cellOf, fieldOf}
-use Rattle.domain.specs.Members.{before, those, members, isIn, anyZero}
+use Rattle.domain.specs.Held.{cellOf, fieldOf}
+use Rattle.domain.specs.Members.{before, those, members, anyZero}
 use Rattle.arith.proofs.Signs.{eqZ-yes, eqZ-no}
 use Rattle.domain.proofs.Laws.{bit-members, from-same, shared-domain}
 
@@ -39,13 +41,13 @@ both o false false x y z h = refl
 
 -- a field whose cells are the results at the devices that two fields share
 pub field-shared : (o : Operator) (d e : ℕ) (xs ys out : List ℤ)
-    → ((k : ℕ) → k < 16 → inDomain k (bitAnd d e) ≡ true → getD out k (pos 0) ≡ result o (getD xs k (pos 0)) (getD ys k (pos 0)))
+    → ((k : ℕ) → k < 16 → hasBit k (bitAnd d e) ≡ true → getD out k (pos 0) ≡ result o (getD xs k (pos 0)) (getD ys k (pos 0)))
     → fieldOf (bitAnd d e) out ≡ pointwise o (fieldOf d xs) (fieldOf e ys)
 unfolding fieldOf
 field-shared o d e xs ys out h =
     from-same (cellOf (bitAnd d e) out) (λ (k : ℕ). resultAt o (cellOf d xs k) (cellOf e ys k)) 16 0
     (λ j b. rw zero-add (ap (λ (t : Bool). cond t (some (getD out j (pos 0))) none) (shared-domain j d e)
-    ∙ both o (inDomain j d) (inDomain j e) (getD xs j (pos 0)) (getD ys j (pos 0)) (getD out j (pos 0)) (λ q. h j b (shared-domain j d e ∙ q))))
+    ∙ both o (hasBit j d) (hasBit j e) (getD xs j (pos 0)) (getD ys j (pos 0)) (getD out j (pos 0)) (λ q. h j b (shared-domain j d e ∙ q))))
     ∙ sym (pointwise-from o (cellOf d xs) (cellOf e ys) 16 0)
 
 zero-before : (s t : Bool) (x : ℤ) (a : ℕ) (l : List ℕ) (ys : List ℤ) (r : Bool) → r ≡ anyZero l ys
@@ -57,12 +59,12 @@ zero-before false true x a l ys r e = e
 zero-before false false x a l ys r e = e
 
 faults-those : (d e : ℕ) (xs ys : List ℤ) (n a : ℕ)
-    → faultsIn div (from a n (cellOf d xs)) (from a n (cellOf e ys)) ≡ anyZero (those a n (λ (k : ℕ). inDomain k (bitAnd d e))) ys
+    → faultsIn div (from a n (cellOf d xs)) (from a n (cellOf e ys)) ≡ anyZero (those a n (λ (k : ℕ). hasBit k (bitAnd d e))) ys
 unfolding faultsIn from those anyZero
 faults-those d e xs ys zero a = refl
 faults-those d e xs ys (suc n) a =
-    let l = those (suc a) n (λ (k : ℕ). inDomain k (bitAnd d e)) in
-    zero-before (inDomain a d) (inDomain a e) (getD xs a (pos 0)) a l ys _ (faults-those d e xs ys n (suc a))
+    let l = those (suc a) n (λ (k : ℕ). hasBit k (bitAnd d e)) in
+    zero-before (hasBit a d) (hasBit a e) (getD xs a (pos 0)) a l ys _ (faults-those d e xs ys n (suc a))
     ∙ ap (λ (t : Bool). anyZero (before t a l) ys) (sym (shared-domain a d e))
 
 pub faults-shared : (d e : ℕ) (xs ys : List ℤ) → faultsIn div (fieldOf d xs) (fieldOf e ys) ≡ anyZero (members (bitAnd d e)) ys
@@ -108,7 +110,7 @@ quotient xs ys k = over (getD xs k (pos 0)) (getD ys k (pos 0))
 
 -- the cells of out in dom that are not among those left are f's
 abbrev pub Walked : (ℕ → ℤ) → ℕ → ℕ → List ℤ → Type 0
-Walked f dom rest out = (length out ≡ 16) × ((i : ℕ) → i < 16 → inDomain i dom ≡ true → isIn i (members rest) ≡ false → getD out i (pos 0) ≡ f i)
+Walked f dom rest out = (length out ≡ 16) × ((i : ℕ) → i < 16 → hasBit i dom ≡ true → among i (members rest) ≡ false → getD out i (pos 0) ≡ f i)
 
 pub walked-none : (f : ℕ → ℤ) (dom : ℕ) (out : List ℤ) → length out ≡ 16 → Walked f dom dom out
 walked-none f dom out e = (
@@ -117,8 +119,8 @@ walked-none f dom out e = (
 )
 
 walked-at : (f : ℕ → ℤ) (dom d r k j : ℕ) (out : List ℤ) (v : ℤ) → k ≡ j → members d ≡ j ∷ members r → k < 16 → v ≡ f k → Walked f dom d out
-    → (i : ℕ) → i < 16 → inDomain i dom ≡ true → isIn i (members r) ≡ false → (t : Bool) → eqb i k ≡ t → getD (set out k v) i (pos 0) ≡ f i
-unfolding isIn
+    → (i : ℕ) → i < 16 → hasBit i dom ≡ true → among i (members r) ≡ false → (t : Bool) → eqb i k ≡ t → getD (set out k v) i (pos 0) ≡ f i
+unfolding among
 walked-at f dom d r k j out v q e h w p i b m n true t =
     rw (eqb-true i k t) (getD-set-same out k v (pos 0) (rw (p .0) h) ∙ w)
 walked-at f dom d r k j out v q e h w p i b m n false t =
@@ -130,9 +132,9 @@ walked-more f dom d r k j out v q e h w p = (
   λ i b m n. walked-at f dom d r k j out v q e h w p i b m n (eqb i k) refl,
 )
 
-pub walked-all : (f : ℕ → ℤ) (dom d : ℕ) (out : List ℤ) → members d ≡ [] → Walked f dom d out → (i : ℕ) → i < 16 → inDomain i dom ≡ true → getD out i (pos 0) ≡ f i
-unfolding isIn
-walked-all f dom d out e p i h b = p .1 i h b (ap (isIn i) e)
+pub walked-all : (f : ℕ → ℤ) (dom d : ℕ) (out : List ℤ) → members d ≡ [] → Walked f dom d out → (i : ℕ) → i < 16 → hasBit i dom ≡ true → getD out i (pos 0) ≡ f i
+unfolding among
+walked-all f dom d out e p i h b = p .1 i h b (ap (among i) e)
 
 -- ---- cells filled from the first up
 abbrev pub Filled : (ℕ → ℤ) → ℕ → List ℤ → Type 0

@@ -15,14 +15,19 @@ use lib.IntN.{ℤ, pos}
 use lib.ListN.{length, getD}
 use lib.Pow.{pow-add, pow-pos}
 use borrow.Author.Tests.{eq-eqb, ne-eqb, eqb-true}
+use Rattle.program.specs.Table.{among}
+use Rattle.bits.specs.Bits.{hasBit}
 use Rattle.field.specs.Field.{from}
-use Rattle.domain.specs.Held.{inDomain, cellOf, fieldOf}
-use Rattle.domain.specs.Members.{before, those, members, isIn, places, bit, built}
+use Rattle.domain.specs.Held.{cellOf, fieldOf}
+use Rattle.domain.specs.Members.{before, those, members, places, bit, built}
 use Rattle.domain.proofs.Walk.{parity, by-halves, devs-length}
 
 pub members-none : members 0 ≡ []
 unfolding members those
 members-none = refl
+
+pub none-in : (dom : ℕ) → dom ≡ 0 → members dom ≡ []
+none-in dom e = ap members e ∙ members-none
 
 pub size-members : (dom : ℕ) → dom < 65536 → ones dom ≡ length (members dom)
 size-members dom h = devs-length 16 0 dom h ∙ ap length (sym (by-halves dom))
@@ -37,27 +42,27 @@ second : (s t : Bool) → s && t ≡ true → t ≡ true
 second true t e = e
 second false t e = absurd (false≢true e)
 
-in-before : (t : Bool) (k a : ℕ) (l : List ℕ) → isIn k (before t a l) ≡ t && eqb k a || isIn k l
-unfolding isIn
+in-before : (t : Bool) (k a : ℕ) (l : List ℕ) → among k (before t a l) ≡ t && eqb k a || among k l
+unfolding among
 in-before true k a l = refl
 in-before false k a l = refl
 
-in-above : (p : ℕ → Bool) (n a k : ℕ) → isIn k (those a n p) ≡ true → k < a + n
-unfolding isIn those
+in-above : (p : ℕ → Bool) (n a k : ℕ) → among k (those a n p) ≡ true → k < a + n
+unfolding among those
 in-above p zero a k e = absurd (false≢true e)
 in-above p (suc n) a k e =
     ⊎-elim (λ q. let s = eqb-true k a (second (p a) (eqb k a) q) in omega arith) (λ q. let s = in-above p n (suc a) k q in omega arith)
-    (either (p a && eqb k a) (isIn k (those (suc a) n p)) (sym (in-before (p a) k a (those (suc a) n p)) ∙ e))
+    (either (p a && eqb k a) (among k (those (suc a) n p)) (sym (in-before (p a) k a (those (suc a) n p)) ∙ e))
 
-in-below : (p : ℕ → Bool) (n a k : ℕ) → k < a → isIn k (those a n p) ≡ false
-unfolding isIn those
+in-below : (p : ℕ → Bool) (n a k : ℕ) → k < a → among k (those a n p) ≡ false
+unfolding among those
 in-below p zero a k h = refl
 in-below p (suc n) a k h =
     in-before (p a) k a (those (suc a) n p)
     ∙ simp (ne-eqb k a (λ e. omega arith), and-false (p a), in-below p n (suc a) k (omega arith))
 
-in-those : (p : ℕ → Bool) (n a j : ℕ) → j < n → isIn (a + j) (those a n p) ≡ p (a + j)
-unfolding isIn those
+in-those : (p : ℕ → Bool) (n a j : ℕ) → j < n → among (a + j) (those a n p) ≡ p (a + j)
+unfolding among those
 in-those p zero a j h = absurd (not-suc-le-zero h)
 in-those p (suc n) a zero h =
     rw (add-zero a)
@@ -67,13 +72,13 @@ in-those p (suc n) a (suc j) h =
     ∙ simp (ne-eqb (a + suc j) a (λ e. omega arith), and-false (p a))
     (rw (add-suc a j, ← suc-add a j) (in-those p n (suc a) j (le-of-suc-le-suc h)))
 
-pub member-below : (dom k : ℕ) → isIn k (members dom) ≡ true → k < 16
+pub member-below : (dom k : ℕ) → among k (members dom) ≡ true → k < 16
 unfolding members
-member-below dom k e = rw zero-add at (in-above (λ (j : ℕ). inDomain j dom) 16 0 k e)
+member-below dom k e = rw zero-add at (in-above (λ (j : ℕ). hasBit j dom) 16 0 k e)
 
-pub bit-members : (dom k : ℕ) → k < 16 → isIn k (members dom) ≡ inDomain k dom
+pub bit-members : (dom k : ℕ) → k < 16 → among k (members dom) ≡ hasBit k dom
 unfolding members
-bit-members dom k h = rw zero-add at (in-those (λ (j : ℕ). inDomain j dom) 16 0 k h)
+bit-members dom k h = rw zero-add at (in-those (λ (j : ℕ). hasBit j dom) 16 0 k h)
 
 -- ---- a field by its members
 
@@ -89,7 +94,7 @@ places-those p f (suc n) a = place-before (p a) f a (from (suc a) n (λ (k : ℕ
 
 pub places-members : (dom : ℕ) (cells : List ℤ) → places (fieldOf dom cells) ≡ map (λ (k : ℕ). getD cells k (pos 0)) (members dom)
 unfolding fieldOf members
-places-members dom cells = places-those (λ (k : ℕ). inDomain k dom) (λ (k : ℕ). getD cells k (pos 0)) 16 0
+places-members dom cells = places-those (λ (k : ℕ). hasBit k dom) (λ (k : ℕ). getD cells k (pos 0)) 16 0
 
 -- ---- what is alike at each place is alike
 
@@ -127,7 +132,7 @@ built-lt b (suc n) = omega (arith, built-lt b n, bit-le (b n))
 half-lt : (b : ℕ → Bool) (n : ℕ) → built b n / 2 < 32768
 half-lt b n = omega (arith, built-lt b n)
 
-top : (t : Bool) (y : ℕ) → y < 32768 → inDomain 15 (y + bit t) ≡ t
+top : (t : Bool) (y : ℕ) → y < 32768 → hasBit 15 (y + bit t) ≡ t
 top true y h = eq-eqb ((y + 32768) / 32768 % 2) 1 (omega arith)
 top false y h = ne-eqb ((y + 0) / 32768 % 2) 1 (λ e. omega arith)
 
@@ -143,7 +148,7 @@ half-at : (x j : ℕ) → x / 2 / 2 ^ j ≡ x / 2 ^ suc j
 half-at x j = div-div-eq-div-mul x 2 (2 ^ j) ∙ ap (λ (n : ℕ). x / n) (sym (pow-succ' 2 j))
 
 -- after n tests the last of them stands at bit 15, so test k at bit 16 + k - n
-built-at : (b : ℕ → Bool) (n k j : ℕ) → k < n → j + n ≡ 16 + k → inDomain j (built b n) ≡ b k
+built-at : (b : ℕ → Bool) (n k j : ℕ) → k < n → j + n ≡ 16 + k → hasBit j (built b n) ≡ b k
 unfolding built
 built-at b zero k j h e = absurd (not-suc-le-zero h)
 built-at b (suc n) k j h e =
@@ -155,12 +160,12 @@ built-at b (suc n) k j h e =
     ∙ built-at b n k (suc j) q (omega arith))
     (eq-or-lt-of-le (le-of-suc-le-suc h))
 
-pub built-domain : (b : ℕ → Bool) (k : ℕ) → k < 16 → inDomain k (built b 16) ≡ b k
+pub built-domain : (b : ℕ → Bool) (k : ℕ) → k < 16 → hasBit k (built b 16) ≡ b k
 built-domain b k h = built-at b 16 k k h (add-comm k 16)
 
 pub built-members : (b : ℕ → Bool) → members (built b 16) ≡ those 0 16 b
 unfolding members
-built-members b = those-same (λ (k : ℕ). inDomain k (built b 16)) b 16 0 (λ j h. rw zero-add (built-domain b j h))
+built-members b = those-same (λ (k : ℕ). hasBit k (built b 16)) b 16 0 (λ j h. rw zero-add (built-domain b j h))
 
 pub built-field : (b : ℕ → Bool) (cells : List ℤ) → fieldOf (built b 16) cells ≡ from 0 16 (λ (k : ℕ). cond (b k) (some (getD cells k (pos 0))) none)
 unfolding fieldOf
@@ -187,7 +192,7 @@ and-bits x y (inl p) (inr q) = put p q ∙ sym (take p q)
 and-bits x y (inr p) (inl q) = put p q ∙ sym (take p q)
 and-bits x y (inr p) (inr q) = put p q ∙ sym (take p q)
 
-pub shared-domain : (k d e : ℕ) → inDomain k (bitAnd d e) ≡ inDomain k d && inDomain k e
+pub shared-domain : (k d e : ℕ) → hasBit k (bitAnd d e) ≡ hasBit k d && hasBit k e
 shared-domain k d e =
     ap (λ (n : ℕ). eqb (n % 2) 1) (and-shr d e k)
     ∙ ap (λ (n : ℕ). eqb n 1) (and-mod (d / 2 ^ k) (e / 2 ^ k) 1)

@@ -9,7 +9,7 @@ use lib.Dec.{eqb}
 use lib.Count.{trailingZeros, under, ones, onesIn, ones-step}
 use lib.ListN.{length}
 use lib.Arith.{lt-one}
-use Rattle.domain.specs.Held.{inDomain}
+use Rattle.bits.specs.Bits.{hasBit}
 use Rattle.domain.specs.Members.{before, those, members}
 
 -- the set ones of d's k lowest bits, the first of which stands for `at`: the members, by halving
@@ -17,11 +17,11 @@ unfoldable pub devs : ℕ → ℕ → ℕ → List ℕ
 devs zero at d = []
 devs (suc k) at d = before (eqb (d % 2) 1) at (devs k (suc at) (d / 2))
 
-halves : (k at d : ℕ) → those at k (λ (j : ℕ). inDomain j d) ≡ devs k at (d / 2 ^ at)
+halves : (k at d : ℕ) → those at k (λ (j : ℕ). hasBit j d) ≡ devs k at (d / 2 ^ at)
 unfolding those devs
 halves zero at d = refl
 halves (suc k) at d =
-    ap (before (inDomain at d) at)
+    ap (before (hasBit at d) at)
     (halves k (suc at) d ∙ ap (devs k (suc at)) (ap (λ (p : ℕ). d / p) (pow-suc 2 at) ∙ sym (div-div-eq-div-mul d (2 ^ at) 2)))
 
 pub by-halves : (d : ℕ) → members d ≡ devs 16 0 d

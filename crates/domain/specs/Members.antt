@@ -4,11 +4,10 @@ use mathlib.Core.List.{List, [], _∷_}
 use mathlib.Core.Option.{none, some}
 use Prim.Native.Nat.{ℕ, zero, suc, _+_, _/_}
 use lib.ListN.{getD}
-use lib.Dec.{eqb}
 use lib.IntN.{ℤ, pos}
+use Rattle.bits.specs.Bits.{hasBit}
 use Rattle.number.specs.Number.{eqZ}
 use Rattle.field.specs.Field.{devices, Field}
-use Rattle.domain.specs.Held.{inDomain}
 
 -- k before l, where it is wanted
 abbrev pub before : Bool → ℕ → List ℕ → List ℕ
@@ -22,11 +21,7 @@ those a (suc n) p = before (p a) a (those (suc a) n p)
 
 -- the set bits of a domain, lowest first
 unfoldable pub members : ℕ → List ℕ
-members dom = those 0 devices (λ k. inDomain k dom)
-
-unfoldable pub isIn : ℕ → List ℕ → Bool
-isIn k [] = false
-isIn k (j ∷ js) = eqb k j || isIn k js
+members dom = those 0 devices (λ k. hasBit k dom)
 
 -- the numbers of a field's domain, lowest device first
 unfoldable pub places : Field → List ℤ

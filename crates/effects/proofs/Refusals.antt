@@ -14,7 +14,7 @@ use Rattle.program.specs.Tree.{Expr}
 use Rattle.network.specs.Cells.{write}
 use Rattle.event.specs.Event.{Event, deliver, lose}
 use Rattle.event.specs.Step.{isDevice, outOfRange, toItself, nothingPending, refusal, effect, plan}
-use Rattle.places.proofs.Devices.{Pair, pair-of}
+use Rattle.event.proofs.Devices.{Pair, pair-of}
 use Rattle.effects.specs.declared.Answer.{Answer}
 use Rattle.effects.specs.Does.{answerOf, Does}
 
@@ -47,10 +47,10 @@ module _ (n : List ℤ) (e : Event) where
   turned-by r code s p f q = turned r (refusal n e) refl (λ z. f (ap (ofZ w32) p ∙ z)) (q ∙ rw (toZ-ofZ s, p))
 
   -- all is done
-  pub done : (r : Answer) (m : List ℤ) → refusal n e ≡ 0 → ((main : Expr) → m ≡ write n (effect main n e .0))
+  pub carried-out : (r : Answer) (m : List ℤ) → refusal n e ≡ 0 → ((main : Expr) → m ≡ write n (effect main n e .0))
       → ((main : Expr) → answerOf r ≡ effect main n e .1) → Does n e r m
   unfolding plan
-  done r m p w q = record { network = λ main. rw p (w main); answer = λ main. rw p (q main) }
+  carried-out r m p w q = record { network = λ main. rw p (w main); answer = λ main. rw p (q main) }
 
 -- an event that is not refused
 first-false : (o t p : Bool) → firstOf ((o, 14) ∷ (t, 15) ∷ (p, 16) ∷ []) ≡ 0 → o ≡ false
@@ -62,8 +62,8 @@ pub in-range : (n : List ℤ) (e : Event) → refusal n e ≡ 0 → outOfRange e
 unfolding refusal
 in-range n e q = first-false _ _ _ q
 
-pub pair : (n : List ℤ) (a b : ℕ) → refusal n (deliver a b) ≡ 0 → Pair a b
-pair n a b q = pair-of a b (not-false (isDevice a && isDevice b) (in-range n (deliver a b) q))
+pub two-devices : (n : List ℤ) (a b : ℕ) → refusal n (deliver a b) ≡ 0 → Pair a b
+two-devices n a b q = pair-of a b (not-false (isDevice a && isDevice b) (in-range n (deliver a b) q))
 
 pub same-refusal : (n : List ℤ) (a b : ℕ) → refusal n (lose a b) ≡ refusal n (deliver a b)
 unfolding refusal

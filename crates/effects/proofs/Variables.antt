@@ -1,22 +1,24 @@
--- A round stores sixteen variables at the most, so it keeps its block's length and its sensors' cell. Assumes nothing.
+-- What a round leaves: as many variables and slots sent as it began with, so it keeps its block's sensors' cell. Assumes nothing.
 use mathlib.Core.Path.{_≡_, refl, _∙_}
 use mathlib.Core.Bool.{Bool, true, false, cond}
 use mathlib.Core.List.{List, [], _∷_}
 use mathlib.Core.Option.{none, some}
-use Prim.Native.Nat.{ℕ, _-_, _≤_}
-use lib.ListN.{length, getD, take, length-set, length-take}
+use Prim.Native.Nat.{ℕ, _≤_}
+use lib.ListN.{length, getD, take, length-set, length-take, length-replicate}
 use lib.IntN.{ℤ, pos}
 use Rattle.number.specs.Number.{mark, eqZ, Operator, faults}
 use Rattle.field.specs.Field.{Field, each, everywhere, faultsIn}
 use Rattle.program.specs.Tree.{Expr, nothing, constant, parameter, variable, operator, sense, rep, branch, mux, nbr, range, foldOp, foldDef, call}
 use Rattle.network.specs.Cells.{store}
 use native.Mathlib.Omega.{arith}
-use Rattle.network.proofs.Stores.{store-out, length-store}
-use Rattle.round.specs.Round.{message, joined, isTrue, arguments, numberOf, fieldOf, round, after, fired, firedBy, State, Value, number, field, Outcome, done, fault, thenValue, onNumbers, onFields, operated, folded, stored, erased, reps, eval}
+use Rattle.network.specs.Network.{sensorsAt, pendingAt}
+use Rattle.network.proofs.Stores.{store-out}
+use Rattle.round.specs.Round.{message, joined, isTrue, arguments, numberOf, fieldOf, round, after, fired, firedBy, State, Value, number, field, Outcome, done, fault}
+use Rattle.round.specs.Round.{thenValue, onNumbers, onFields, operated, folded, stored, sending, erased, reps, eval}
 
 module _ (m : ℕ) where
   abbrev Held : State → Type 0
-  Held s = length (s .variables) ≡ m
+  Held s = (length (s .variables) ≡ m) × (length (s .sent) ≡ 16)
 
   abbrev KeptBy : Outcome → Type 0
   KeptBy (done v s) = Held s
@@ -53,7 +55,10 @@ module _ (m : ℕ) where
   operated-kept n o (field f) (field g) s h = fields-kept n o f g s h
 
   stored-held : (v : ℕ) (z : ℤ) (s : State) → Held s → Held (stored v z s)
-  stored-held v z s h = length-set (s .variables) v z ∙ h
+  stored-held v z s h = (length-set (s .variables) v z ∙ h .0, h .1)
+
+  sending-held : (i : ℕ) (z : ℤ) (s : State) → Held s → Held (sending i z s)
+  sending-held i z s h = (h .0, length-set (s .sent) i z ∙ h .1)
 
   erased-held : (vs : List ℕ) (s : State) → Held s → Held (erased vs s)
   unfolding erased
@@ -77,15 +82,16 @@ module _ (m : ℕ) where
   eval-kept b (sense e) args s h = then-kept (eval b e args s) (eval-kept b e args s h) (λ x t k. kept-done k)
   eval-kept b (rep v i u) args s h =
       then-kept (eval b i args s) (eval-kept b i args s h)
-      (λ x t k. kept-cond (eqZ (getD (t .variables) v (pos 0)) mark) (kept-done (stored-held v (numberOf x) t k)) (then-kept (eval b u args t) (eval-kept b u args t k) (λ y w g. kept-done (stored-held v (numberOf y) w g))))
+      (λ x t k. kept-cond (eqZ (getD (t .variables) v (pos 0)) mark) (kept-done (stored-held v (numberOf x) t k))
+      (then-kept (eval b u args t) (eval-kept b u args t k) (λ y w g. kept-done (stored-held v (numberOf y) w g))))
   eval-kept b (branch c x y) args s h =
       then-kept (eval b c args s) (eval-kept b c args s h)
       (λ z t k. kept-cond (isTrue (numberOf z)) (eval-kept b x args (erased (reps y) t) (erased-held (reps y) t k)) (eval-kept b y args (erased (reps x) t) (erased-held (reps x) t k)))
   eval-kept b (mux c x y) args s h =
       then-kept (eval b x args s) (eval-kept b x args s h)
       (λ p t k. then-kept (eval b y args t) (eval-kept b y args t k) (λ q u g. then-kept (eval b c args u) (eval-kept b c args u g) (λ r w i. kept-done i)))
-  eval-kept b (nbr i e) args s h = then-kept (eval b e args s) (eval-kept b e args s h) (λ x t k. kept-done k)
-  eval-kept b (range i) args s h = kept-done h
+  eval-kept b (nbr i e) args s h = then-kept (eval b e args s) (eval-kept b e args s h) (λ x t k. kept-done (sending-held i (numberOf x) t k))
+  eval-kept b (range i) args s h = kept-done (sending-held i (pos 0) s h)
   eval-kept b (foldOp n o i f) args s h =
       then-kept (eval b i args s) (eval-kept b i args s h)
       (λ x t k. then-kept (eval b f args t) (eval-kept b f args t k)
@@ -101,25 +107,21 @@ module _ (m : ℕ) where
       (λ r v i. then-kept (eval b w args v) (eval-kept b w args v i)
       (λ f a j. eval-kept b d (arguments (numberOf p) (numberOf q) (numberOf r) (numberOf f)) a j))))
 
--- ---- a round keeps its block's length and its sensors' cell
+-- ---- the device's cells after its round: as they were, or with its variables and its messages stored
 round-kept : (main : Expr) (b : List ℤ) → Kept (length (take 16 b)) (round main b)
 unfolding round
-round-kept main b = eval-kept (length (take 16 b)) _ main _ _ refl
+round-kept main b = eval-kept (length (take 16 b)) _ main _ _ (refl, length-replicate 16 mark)
 
-pub fired-length : (main : Expr) (b : List ℤ) → length (fired main b .0) ≡ length b
-unfolding fired after
-fired-length main b = go (round main b)
+pub fired-has : (P : List ℤ → Type 0) (main : Expr) (b : List ℤ) → P b → ((s : State) → length (s .variables) ≤ 16 → length (s .sent) ≡ 16 → P (after b s)) → P (fired main b .0)
+unfolding fired
+fired-has P main b p f = go (round main b) (round-kept main b)
   where
-    go : (o : Outcome) → length (firedBy o b .0) ≡ length b
-    go (done v s) = simp length-store
-    go (fault n) = refl
+    go : (o : Outcome) → Kept (length (take 16 b)) o → P (firedBy o b .0)
+    go (done v s) k = f s (omega (arith, length-take 16 b, k .by .0)) (k .by .1)
+    go (fault n) k = p
 
-pub fired-sensors : (main : Expr) (b : List ℤ) → getD (fired main b .0) 16 (pos 0) ≡ getD b 16 (pos 0)
-unfolding fired after
-fired-sensors main b = go (round main b) (round-kept main b)
-  where
-    go : (o : Outcome) → Kept (length (take 16 b)) o → getD (firedBy o b .0) 16 (pos 0) ≡ getD b 16 (pos 0)
-    go (done v s) k =
-        let h : length (s .variables) ≤ 16 = omega (arith, length-take 16 b, k .by) in
-        store-out (store b 0 (s .variables)) 273 (joined (each (message b s))) 16 (pos 0) (λ p q. omega arith) ∙ store-out b 0 (s .variables) 16 (pos 0) (λ p q. omega arith)
-    go (fault n) k = refl
+pub fired-sensors : (main : Expr) (b : List ℤ) → getD (fired main b .0) sensorsAt (pos 0) ≡ getD b sensorsAt (pos 0)
+unfolding after
+fired-sensors main b =
+    fired-has (λ c. getD c sensorsAt (pos 0) ≡ getD b sensorsAt (pos 0)) main b refl
+    (λ s h k. store-out (store b 0 (s .variables)) (pendingAt 1) (joined (each (message b s))) 16 (pos 0) (λ p q. omega arith) ∙ store-out b 0 (s .variables) sensorsAt (pos 0) (λ p q. omega arith))

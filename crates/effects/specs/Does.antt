@@ -6,9 +6,12 @@ use mathlib.Core.Bool.{true}
 use lib.ListN.{getD}
 use lib.IntN.{ℤ, pos}
 use lib.Signed.{leZ}
+use Rattle.field.specs.Field.{devices}
 use Rattle.program.specs.Tree.{Expr}
+use Rattle.network.specs.Cells.{row}
+use Rattle.network.specs.Network.{noMessage}
 use Rattle.event.specs.Event.{Event}
-use Rattle.event.specs.Step.{sensorsOf, doEvent}
+use Rattle.event.specs.Step.{sensorsOf, pendingTo, doEvent}
 use Rattle.effects.specs.declared.Answer.{Answer}
 
 abbrev pub answerOf : Answer → ℤ × ℤ
@@ -19,10 +22,14 @@ pub record Does (n : List ℤ) (e : Event) (r : Answer) (n′ : List ℤ) : Type
   pub network : (main : Expr) → n′ ≡ doEvent main n e .0
   pub answer : (main : Expr) → answerOf r ≡ doEvent main n e .1
 
--- the n cells from one place are not among the n from another
-abbrev pub Apart : ℕ → ℕ → ℕ → Type 0
-Apart n from to = (i j : ℕ) → i < n → j < n → from + i ≡ to + j → ⊥
-
 -- what `signal` asks, of every device: no sensors' cell is negative. A sound network has it, and every event keeps it (proofs/Lit.antt)
 abbrev pub Lit : List ℤ → Type 0
 Lit n = (a : ℕ) → leZ (pos 0) (getD n (sensorsOf a) (pos 0)) ≡ true
+
+-- what `fire` asks, of every row of messages: one whose mark is 0 is that of nothing pending, slot by slot, so it may be left alone.
+-- A sound network has it, and every event keeps it (proofs/Idle.antt)
+abbrev pub IdleRow : List ℤ → Type 0
+IdleRow r = getD r 0 (pos 0) ≡ pos 0 → r ≡ noMessage
+
+abbrev pub Idle : List ℤ → Type 0
+Idle n = (a b : ℕ) → a < devices → b < devices → IdleRow (row n (pendingTo (1 + a) (1 + b)) 16)

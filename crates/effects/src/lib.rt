@@ -6,9 +6,10 @@ ghost use lib.ListN.{getD};
 ghost use lib.IntN.{pos};
 ghost use lib.Signed.{leZ};
 ghost use Rattle.network.specs.Cells.{row, store};
+ghost use Rattle.network.specs.Network.{networkSize};
 ghost use Rattle.event.specs.Event.{fire, deliver, lose, link, signal};
 ghost use Rattle.event.specs.Step.{outOfRange, refusal, sensorsOf, digitSet};
-ghost use Rattle.effects.specs.Does.{answerOf, Does, Apart};
+ghost use Rattle.effects.specs.Does.{answerOf, Does};
 
 // What an event is answered: 0 and the value, or a refusal and 0.
 pub struct Answer {
@@ -29,33 +30,31 @@ fn answered(code: i32) -> Answer
 pub fn fire_refused(a: u8) -> bool
     ensures { λ r. ⌜ r ≡ outOfRange (fire a) ⌝ }
 {
-    !places::is_device(a)
+    !cells::is_device(a)
 }
 
-// The fifteen cells from `to` become the fifteen from `from`, none of which is among them.
+// The fifteen cells from `to` become the fifteen from `from`, by way of cells of its own: both rows are in one slice.
 fn copy_row(net: &mut [i32], from: usize, to: usize)
-    requires { do ⌜ (from + 15 ≤ (← ⟦net.len()⟧)) × (to + 15 ≤ (← ⟦net.len()⟧)) × Apart 15 from to ⌝ }
+    requires { do ⌜ (from + 15 ≤ (← ⟦net.len()⟧)) × (to + 15 ≤ (← ⟦net.len()⟧)) ⌝ }
     ensures { λ _. ⌜ now (net .exit) ≡ store (now (net .entry)) to (row (now (net .entry)) from 15) ⌝ }
 {
-    let mut i: usize = 0;
-    while i < 15 {
-        net[to + i] = net[from + i];
-        i += 1;
-    }
+    let mut slots = [layout::MARK; 15];
+    cells::copy(&mut slots, 0, &*net, from, 15);
+    cells::copy(net, to, &slots, 0, 15);
 }
 
 // The refusal of a delivery or a loss, 0 where there is none.
 fn message_refusal(net: &[i32], a: u8, b: u8) -> i32
-    requires { do ⌜ (← ⟦net.len()⟧) ≡ 8464 ⌝ }
+    requires { do ⌜ (← ⟦net.len()⟧) ≡ networkSize ⌝ }
     ensures { λ r. ⌜ r ≡ pos (refusal (now (net .entry)) (deliver a b)) ⌝ }
 {
-    if !places::are_devices(a, b) {
+    if !cells::are_devices(a, b) {
         return 14;
     }
     if a == b {
         return 15;
     }
-    let at = places::pending_to(a, b);
+    let at = cells::pending_to(a, b);
     if net[at] == 0 {
         return 16;
     }
@@ -64,48 +63,48 @@ fn message_refusal(net: &[i32], a: u8, b: u8) -> i32
 
 // b's heard slots 1 to 15 from a become the message's, slot 0 stays, and the pending message goes.
 pub fn deliver(net: &mut [i32], a: u8, b: u8) -> Answer
-    requires { do ⌜ (← ⟦net.len()⟧) ≡ 8464 ⌝ }
+    requires { do ⌜ (← ⟦net.len()⟧) ≡ networkSize ⌝ }
     ensures { λ r. ⌜ Does (now (net .entry)) (deliver a b) r (now (net .exit)) ⌝ }
 {
     let code = message_refusal(&*net, a, b);
     if code != 0 {
         return answered(code);
     }
-    let at = places::pending_to(a, b);
-    let heard = places::heard_from(b, a);
+    let at = cells::pending_to(a, b);
+    let heard = cells::heard_from(b, a);
     copy_row(net, at + 1, heard + 1);
-    fresh::no_message(net, at);
+    cells::no_message(net, at);
     answered(0)
 }
 
 // The pending message goes.
 pub fn lose(net: &mut [i32], a: u8, b: u8) -> Answer
-    requires { do ⌜ (← ⟦net.len()⟧) ≡ 8464 ⌝ }
+    requires { do ⌜ (← ⟦net.len()⟧) ≡ networkSize ⌝ }
     ensures { λ r. ⌜ Does (now (net .entry)) (lose a b) r (now (net .exit)) ⌝ }
 {
     let code = message_refusal(&*net, a, b);
     if code != 0 {
         return answered(code);
     }
-    fresh::no_message(net, places::pending_to(a, b));
+    cells::no_message(net, cells::pending_to(a, b));
     answered(0)
 }
 
 // The link from a to b has that distance; the mark ends it.
 pub fn link(net: &mut [i32], a: u8, b: u8, distance: i32) -> Answer
-    requires { do ⌜ (← ⟦net.len()⟧) ≡ 8464 ⌝ }
+    requires { do ⌜ (← ⟦net.len()⟧) ≡ networkSize ⌝ }
     ensures { λ r. ⌜ Does (now (net .entry)) (link a b distance) r (now (net .exit)) ⌝ }
 {
-    if !places::are_devices(a, b) {
+    if !cells::are_devices(a, b) {
         return answered(14);
     }
-    if !rules::distance_sound(distance) {
+    if !cells::distance_sound(distance) {
         return answered(14);
     }
     if a == b {
         return answered(15);
     }
-    let at = places::heard_from(a, b);
+    let at = cells::heard_from(a, b);
     net[at] = distance;
     answered(0)
 }
@@ -122,10 +121,10 @@ fn digit_set(x: u32, s: u8, v: u8) -> u32
 
 // The sensor is lit or not. Its cell, 0 to 65,535 in a sound network, must not be negative.
 pub fn signal(net: &mut [i32], a: u8, sensor: u8, switch: u8) -> Answer
-    requires { do ⌜ ((← ⟦net.len()⟧) ≡ 8464) × (leZ (pos 0) (getD (now net) (sensorsOf a) (pos 0)) ≡ true) ⌝ }
+    requires { do ⌜ ((← ⟦net.len()⟧) ≡ networkSize) × (leZ (pos 0) (getD (now net) (sensorsOf a) (pos 0)) ≡ true) ⌝ }
     ensures { λ r. ⌜ Does (now (net .entry)) (signal a sensor switch) r (now (net .exit)) ⌝ }
 {
-    if !places::is_device(a) {
+    if !cells::is_device(a) {
         return answered(14);
     }
     if sensor > 15 {
@@ -134,7 +133,7 @@ pub fn signal(net: &mut [i32], a: u8, sensor: u8, switch: u8) -> Answer
     if switch > 1 {
         return answered(14);
     }
-    let at = places::sensors_of(a);
+    let at = cells::sensors_of(a);
     net[at] = digit_set(net[at] as u32, sensor, switch) as i32;
     answered(0)
 }

@@ -5,26 +5,49 @@ use mathlib.Core.List.{[], _∷_}
 use Prim.Native.Nat.{ℕ, _<_, _≤_}
 use lib.ListN.{getD}
 use lib.Dec.{ltb}
+use Rattle.program.specs.Table.{kindCount}
+use Rattle.words.specs.Form.{constantForm, parameterForm, variableForm, operatorForm, senseForm, repForm, ifForm, muxForm, foldByForm, callForm, foldForm, nbrForm}
+use Rattle.words.specs.Form.{rangeForm, fieldIfForm, fieldOperatorForm}
+use Rattle.shapes.specs.Kinds.{constantKind}
 use Rattle.program.specs.Tree.{signed}
 use Rattle.words.specs.Word.{form, item, p1, p2, p3, p4, body, count, constantOf}
-use Rattle.shapes.specs.Shapes.{kidsOf}
+use Rattle.shapes.specs.Shapes.{kidsOf, leadOf}
 use Rattle.nodes.specs.declared.Node.{Node}
 
 -- the form of a kind: side, where an operator has a field for a side; branch, where the second child is a field
 abbrev pub formBy : ℕ → Bool → Bool → ℕ
 formBy kind side branch =
-    getD (0 ∷ 1 ∷ 2 ∷ cond side 19 3 ∷ 4 ∷ 5 ∷ cond branch 18 6 ∷ 7 ∷ 16 ∷ 17 ∷ 10 ∷ 8 ∷ 9 ∷ []) kind 0
+    getD (
+    constantForm
+    ∷ parameterForm
+    ∷ variableForm
+    ∷ cond side fieldOperatorForm operatorForm
+    ∷ senseForm
+    ∷ repForm
+    ∷ cond branch fieldIfForm ifForm
+    ∷ muxForm
+    ∷ nbrForm
+    ∷ rangeForm
+    ∷ foldForm
+    ∷ foldByForm
+    ∷ callForm
+    ∷ [])
+    kind
+    constantForm
 
--- the item of a word: none of a definition
+-- the item of a word, by what stands first in a node of the kind: no constant and no definition
+abbrev pub itemIn : ℕ → ℕ → ℕ
+itemIn lead i = getD (0 ∷ i ∷ i ∷ i ∷ i ∷ i ∷ 0 ∷ 0 ∷ []) lead 0
+
 abbrev pub itemBy : ℕ → ℕ → ℕ
-itemBy kind i = getD (0 ∷ i ∷ i ∷ i ∷ 0 ∷ i ∷ 0 ∷ 0 ∷ i ∷ i ∷ i ∷ 0 ∷ 0 ∷ []) kind 0
+itemBy kind i = itemIn (leadOf kind) i
 
 -- child j, of so many
 abbrev pub kid : ℕ → ℕ → ℕ → ℕ
 kid kids j k = cond (ltb j kids) k 0
 
 pub record IsConstant (c w : ℕ) : Type 0 where
-  pub isForm : form w ≡ 0
+  pub isForm : form w ≡ constantForm
   pub isNumber : constantOf w ≡ signed c
 
 -- the word of a form and an item, of x's children and their count, and of a body
@@ -40,7 +63,7 @@ pub record IsParts (f i : ℕ) (x : Node) (b w : ℕ) : Type 0 where
 
 -- what has a word
 pub record Fits (x : Node) : Type 0 where
-  pub kind : x .kind < 13
+  pub kind : x .kind < kindCount
   pub kids : x .kids ≤ 4
   pub item : itemBy (x .kind) (x .item) < 16
 
@@ -52,5 +75,5 @@ pub record Leaf (x : Node) : Type 0 where
   pub kind : kidsOf (x .kind) count ≡ 0
 
 pub record IsWord (x : Node) (b : ℕ) (side branch : Bool) (w : ℕ) : Type 0 where
-  pub isConstant : x .kind ≡ 0 → IsConstant (x .constant) w
-  pub isParts : (x .kind ≡ 0 → ⊥) → IsParts (formBy (x .kind) side branch) (itemBy (x .kind) (x .item)) x b w
+  pub isConstant : x .kind ≡ constantKind → IsConstant (x .constant) w
+  pub isParts : (x .kind ≡ constantKind → ⊥) → IsParts (formBy (x .kind) side branch) (itemBy (x .kind) (x .item)) x b w

@@ -2,13 +2,9 @@
 ghost use mathlib.Core.Path.{_≡_};
 ghost use mathlib.Core.Bool.{Bool, cond};
 ghost use Prim.Native.Nat.{_<_};
+ghost use Rattle.program.specs.Table.{kindCount};
+ghost use Rattle.shapes.specs.Kinds.{operatorKind};
 ghost use Rattle.encode.specs.Parts.{formBy, itemBy, kid, IsConstant, IsParts, IsWord, Fits, Leaf};
-
-// Forms by kind, five bits each, kind 0 lowest; an operator and an if have others where they are fields.
-const FORMS: u64 = 0x942a30398a418820;
-
-// The kinds whose item is in the word, a bit each.
-const ITEMS: u32 = 0x72e;
 
 fn pick(b: bool, x: u8, y: u8) -> u8
     ensures { λ r. ⌜ r ≡ cond b x y ⌝ }
@@ -50,26 +46,42 @@ fn parts_word(form: u8, item: u8, x: nodes::Node, body: u8) -> u64
     (form as u64) + 32 * w
 }
 
-// The form of a kind.
+// The form of a kind. side: an operator has a field for a side; branch: an if's second child is a field.
 fn form_by(kind: u8, side: bool, branch: bool) -> u8
-    requires { ⌜ kind < 13 ⌝ }
+    requires { ⌜ kind < kindCount ⌝ }
     ensures { λ r. ⌜ r ≡ formBy kind side branch ⌝ }
 {
-    if kind == 3 {
-        return pick(side, 19, 3);
+    match kind {
+        shapes::CONSTANT => unpack::CONSTANT,
+        shapes::PARAMETER => unpack::PARAMETER,
+        shapes::VARIABLE => unpack::VARIABLE,
+        shapes::OPERATOR => pick(side, unpack::FIELD_OPERATOR, unpack::OPERATOR),
+        shapes::SENSE => unpack::SENSE,
+        shapes::REP => unpack::REP,
+        shapes::IF => pick(branch, unpack::FIELD_IF, unpack::IF),
+        shapes::MUX => unpack::MUX,
+        shapes::NBR => unpack::NBR,
+        shapes::RANGE => unpack::RANGE,
+        shapes::FOLD => unpack::FOLD,
+        shapes::FOLD_BY => unpack::FOLD_BY,
+        _ => unpack::CALL,
     }
-    if kind == 6 {
-        return pick(branch, 18, 6);
-    }
-    ((FORMS >> (5 * (kind as u32))) % 32) as u8
 }
 
 // The item of a kind's word, 0 where that has none.
 fn item_by(kind: u8, i: u8) -> u8
-    requires { ⌜ kind < 13 ⌝ }
+    requires { ⌜ kind < kindCount ⌝ }
     ensures { λ r. ⌜ r ≡ itemBy kind i ⌝ }
 {
-    pick((ITEMS >> kind) % 2 == 1, i, 0)
+    match kind {
+        shapes::CONSTANT => 0,
+        shapes::SENSE => 0,
+        shapes::IF => 0,
+        shapes::MUX => 0,
+        shapes::FOLD_BY => 0,
+        shapes::CALL => 0,
+        _ => i,
+    }
 }
 
 // The word of a node whose definition has this body. side: an operator has a field for a side; branch: the second child
@@ -78,7 +90,7 @@ pub fn word_of(x: nodes::Node, body: u8, side: bool, branch: bool) -> u64
     requires { ⌜ Fits x ⌝ }
     ensures { λ r. ⌜ IsWord x body side branch r ⌝ }
 {
-    if x.kind == 0 {
+    if x.kind == shapes::CONSTANT {
         return constant_word(x.constant);
     }
     let form = form_by(x.kind, side, branch);
@@ -91,25 +103,25 @@ pub fn leaf_word(x: nodes::Node, body: u8) -> u64
     requires { ⌜ Leaf x ⌝ }
     ensures { λ r. ⌜ ((side branch : Bool) → IsWord x body side branch r) ⌝ }
 {
-    if x.kind == 0 {
+    if x.kind == shapes::CONSTANT {
         return constant_word(x.constant);
     }
     let w = 562949953421312 * (body as u64); // from bit 49
-    if x.kind == 12 {
-        return w + 9;
+    if x.kind == shapes::CALL {
+        return w + (unpack::CALL as u64);
     }
-    let form = pick(x.kind == 9, 17, x.kind);
+    let form = form_by(x.kind, false, false);
     w + 32 * (x.item as u64) + (form as u64)
 }
 
 // The word of an operator. side: it has a field for a side.
 pub fn operator_word(x: nodes::Node, body: u8, side: bool) -> u64
-    requires { ⌜ (x .kind ≡ 3) × (x .kids ≡ 2) × (x .item < 16) ⌝ }
+    requires { ⌜ (x .kind ≡ operatorKind) × (x .kids ≡ 2) × (x .item < 16) ⌝ }
     ensures { λ r. ⌜ ((branch : Bool) → IsWord x body side branch r) ⌝ }
 {
     let w = (body as u64) + 2048;
     let w = (x.b as u64) + 1073741824 * w;
     let w = (x.a as u64) + 1024 * w;
     let w = (x.item as u64) + 16 * w;
-    (pick(side, 19, 3) as u64) + 32 * w
+    (pick(side, unpack::FIELD_OPERATOR, unpack::OPERATOR) as u64) + 32 * w
 }

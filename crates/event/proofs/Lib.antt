@@ -1,3 +1,4 @@
+pub mod Devices
 pub mod Passed
 pub mod ShownReceipt
 pub mod ShownOpened

@@ -1,14 +1,12 @@
 -- A call that no test turns away carries out its events.
-use mathlib.Core.Path.{_≡_, refl, sym, ap, _∙_}
-use mathlib.Core.Bool.{cond}
-use mathlib.Core.List.{List, [], _∷_}
+use mathlib.Core.Path.{_≡_}
+use mathlib.Core.List.{List}
 use Prim.Native.Nat.{ℕ}
-use lib.Dec.{eqb}
 use lib.IntN.{ℤ}
-use Rattle.program.specs.Check.{Verdict, check, mainOf}
+use Rattle.program.specs.Check.{check, mainOf}
 use Rattle.network.specs.Network.{soundness}
-use Rattle.event.specs.Event.{Entry, Read, entries, entriesOf, listVerdict, readList}
-use Rattle.event.specs.Calls.{firstRefusal, room, tests, performed, carriedOut, run, Result}
+use Rattle.event.specs.Event.{Entry, entries, readList}
+use Rattle.event.specs.Calls.{firstRefusal, room, tests, performed, carriedOut, run}
 
 -- where each test passes, none refuses
 all-pass : (program : List ℕ) (network : List ℤ) (l : List Entry) (space : List ℤ) → check program ≡ (0, 0) → soundness network ≡ (0, 0)

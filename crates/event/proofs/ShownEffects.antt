@@ -1,24 +1,23 @@
 -- What each event stores, and where, by computation. Assumes nothing.
 use mathlib.Core.Path.{_≡_, refl}
 use mathlib.Core.List.{List, [], _∷_, _++_, map}
-use Prim.Native.Nat.{_+_}
+use Prim.Native.Nat.{_+_, _*_}
 use lib.ListN.{replicate}
 use lib.IntN.{ℤ, pos}
 use Rattle.number.specs.Number.{mark, add, div}
 use Rattle.program.specs.Tree.{Expr, constant, variable, operator, sense, rep, nbr, foldOp}
 use Rattle.network.specs.Cells.{row, store, write}
-use Rattle.network.specs.Network.{blockSize, base, copies, freshBlock, fresh}
+use Rattle.network.specs.Network.{sensorsAt, heardAt, pendingAt, blockSize, base, copies, freshBlock, fresh}
 use Rattle.round.specs.Round.{fired}
 use Rattle.event.specs.Event.{fire, deliver, lose, link, signal}
 use Rattle.event.specs.Step.{Answer, digitSet, sensorsOf, heardFrom, pendingTo, plan, doEvent}
 use Rattle.event.proofs.ShownOpened.{doing, neg}
 
--- the numbers of the cells, here only: "Device a owns 529 cells from (a - 1) × 529"; "16: its lit sensors";
--- "17 + 16 × (b - 1) + i: slot i last heard from b"; "273 + 16 × (b - 1) + i: the message pending from a to b"
-places : (map sensorsOf (1 ∷ 2 ∷ 16 ∷ []) ≡ 16 ∷ 545 ∷ 7951 ∷ [])
-    × (heardFrom 1 1 ≡ 17) × (heardFrom 1 2 ≡ 33) × (heardFrom 2 1 ≡ 546) × (heardFrom 16 15 ≡ 8176)
-    × (pendingTo 1 1 ≡ 273) × (pendingTo 1 2 ≡ 289) × (pendingTo 2 1 ≡ 802) × (pendingTo 16 15 ≡ 8432)
-places = (refl, refl, refl, refl, refl, refl, refl, refl, refl)
+-- "Device a owns .. cells from (a - 1) × ..": the cells that an event names stand in a's block, at b's place (the numbers themselves: network/ShownFresh)
+places : (sensorsOf 1 ≡ sensorsAt) × (sensorsOf 2 ≡ blockSize + sensorsAt) × (sensorsOf 16 ≡ 15 * blockSize + sensorsAt)
+    × (heardFrom 1 1 ≡ heardAt 1) × (heardFrom 1 2 ≡ heardAt 2) × (heardFrom 2 1 ≡ blockSize + heardAt 1) × (heardFrom 16 15 ≡ 15 * blockSize + heardAt 15)
+    × (pendingTo 1 1 ≡ pendingAt 1) × (pendingTo 1 2 ≡ pendingAt 2) × (pendingTo 2 1 ≡ blockSize + pendingAt 1) × (pendingTo 16 15 ≡ 15 * blockSize + pendingAt 15)
+places = (refl, refl, refl, refl, refl, refl, refl, refl, refl, refl, refl)
 
 -- An event that is not refused answers "0 and the value (0 unless fire)"
 abbrev silent : Answer

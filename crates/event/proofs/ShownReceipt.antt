@@ -1,14 +1,13 @@
 -- "merging a receipt slot by slot", one of 01's 'shortcuts that give other networks', ruled out by a receipt that computes.
 use mathlib.Core.Path.{_≡_, refl}
 use mathlib.Core.List.{List, [], _∷_}
-use Prim.Native.Nat.{ℕ, _+_}
 use lib.ListN.{replicate}
 use lib.IntN.{ℤ, pos}
 use Rattle.number.specs.Number.{mark}
 use Rattle.program.specs.Table.{firstOf}
 use Rattle.program.specs.Tree.{Expr}
 use Rattle.network.specs.Cells.{row, write}
-use Rattle.network.specs.Network.{copies, fresh}
+use Rattle.network.specs.Network.{fresh}
 use Rattle.event.specs.Event.{deliver}
 use Rattle.event.specs.Step.{heardFrom, pendingTo, refusal, plan, doEvent}
 

@@ -1,13 +1,13 @@
 -- What each event does to the network, and its answer. Definitions only: nothing is assumed.
-use mathlib.Core.Bool.{Bool, true, false, not, cond, _&&_, _||_}
+use mathlib.Core.Bool.{Bool, false, not, cond, _&&_, _||_}
 use mathlib.Core.List.{List, [], _∷_}
-use Prim.Native.Nat.{ℕ, zero, suc, _+_, _-_, _*_, _/_, _%_}
+use Prim.Native.Nat.{ℕ, zero, suc, _+_, _*_, _/_, _%_}
 use lib.ListN.{getD}
-use lib.Dec.{eqb, leb, ltb}
+use lib.Dec.{eqb, leb}
 use lib.IntN.{ℤ, pos, natAbs}
 use Rattle.number.specs.Number.{eqZ}
 use Rattle.field.specs.Field.{devices}
-use Rattle.program.specs.Table.{Rows, firstOf}
+use Rattle.program.specs.Table.{firstOf}
 use Rattle.program.specs.Tree.{Expr}
 use Rattle.network.specs.Cells.{row, write}
 use Rattle.network.specs.Network.{blockSize, base, sensorsAt, heardAt, pendingAt, noMessage, isDistance}

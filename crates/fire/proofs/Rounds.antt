@@ -1,32 +1,34 @@
 -- A device's messages and cells after a round, and a fire from its round's outcome. Assumes nothing.
 use mathlib.Core.Path.{_≡_, refl, sym, _∙_}
-use mathlib.Core.Bool.{Bool, true, false, cond}
+use mathlib.Core.Bool.{true, false}
 use mathlib.Core.List.{List, _∷_}
 use Prim.Native.Nat.{ℕ, _+_, _-_, _*_, _≤_}
 use native.Mathlib.Omega.{arith}
-use lib.ListN.{length, getD, take, drop, length-drop}
+use lib.ListN.{length, getD, take, drop}
 use lib.Seq.{getD-take, take-take}
 use lib.IntN.{ℤ, pos, _-ℤ_}
 use mir.Syntax.{w32}
 use mir.Val.{SFits, ofZ, toZ}
 use mir.ValLaws.{toZ-ofZ}
 use borrow.Author.Tests.{le-ltb}
-use Rattle.number.specs.Number.{mark, eqZ}
-use Rattle.field.specs.Field.{each}
+use Rattle.number.specs.Number.{mark}
+use Rattle.field.specs.Field.{devices, each}
 use Rattle.program.specs.Tree.{Expr}
 use Rattle.network.specs.Cells.{row, store}
-use Rattle.network.specs.Network.{base, heardAt, noMessage}
+use Rattle.network.specs.Network.{blockSize, base, heardAt, pendingAt, noMessage}
 use Rattle.round.specs.Round.{State, Outcome, done, fault, arguments, eval, round, message, joined, after, firedBy, fired}
 use Rattle.event.specs.Event.{fire}
-use Rattle.event.specs.Step.{outOfRange, block, effect, plan}
-use Rattle.step.specs.State.{stateOf, faultOf, Gives}
+use Rattle.event.specs.Step.{pendingTo, outOfRange, block, effect, plan}
+use Rattle.apply.specs.State.{stateSize, stateOf, faultOf, Gives}
 use Rattle.arith.proofs.Signs.{eqZ-yes, eqZ-no}
 use Rattle.effects.specs.declared.Answer.{Answer}
-use Rattle.effects.specs.Does.{answerOf}
+use Rattle.effects.specs.Does.{answerOf, IdleRow, Idle}
 use Rattle.effects.proofs.Refusals.{is-14, is-0, turned}
-use Rattle.fire.specs.Fires.{atFirst, Puts, Fires}
+use Rattle.fire.specs.Fires.{ownSize, atFirst, IdleRows, Puts, Fires}
 use Rattle.domain.proofs.Laws.{from-same}
-use Rattle.fire.proofs.Rows.{row-length, store-row, two-in, joined-length}
+use Rattle.effects.proofs.Rows.{row-length, store-row, joined-length}
+use Rattle.effects.proofs.Idle.{message-length, idle-out}
+use Rattle.fire.proofs.Rows.{two-in}
 
 -- ---- the message to a device
 module _ (here : List ℤ) (s : State) (b : ℕ) where
@@ -41,20 +43,21 @@ module _ (here : List ℤ) (s : State) (b : ℕ) where
   unfolding message
   linked e = rw (place, eqZ-no (getD here (17 + 16 * b) (pos 0)) mark e)
 
-pub message-length : (here : List ℤ) (s : State) (b : ℕ) → length (s .sent) ≡ 16 → length (message here s b) ≡ 16
-unfolding message
-message-length here s b h = go (eqZ (getD here (heardAt b + 0) (pos 0)) mark)
-  where
-    go : (t : Bool) → length (cond t noMessage (pos 1 ∷ drop 1 (s .sent))) ≡ 16
-    go true = refl
-    go false = omega (arith, length-drop 1 (s .sent))
+-- ---- what is asked of the rows of messages
+-- of one behind what was stored
+pub idle-behind : (n m vs : List ℤ) (lo p : ℕ) → m ≡ store n lo vs → lo + length vs ≤ p → IdleRow (row n p 16) → IdleRow (row m p 16)
+idle-behind n m vs lo p e h i = rw e (idle-out n lo vs p (λ c x y z w. omega arith) i)
 
-messages-same : (l : List ℤ) (s : State) → each (message l s) ≡ each (message (take 273 l) s)
+-- of those of device a
+pub idle-rows : (n : List ℤ) (a : ℕ) → Idle n → 1 ≤ a → a ≤ devices → IdleRows n (base a + pendingAt 1)
+idle-rows n a i p q b h = let e : pendingTo (1 + (a - 1)) (1 + b) ≡ base a + pendingAt 1 + 16 * b = omega arith in rw e at (i (a - 1) b (omega arith) h)
+
+messages-same : (l : List ℤ) (s : State) → each (message l s) ≡ each (message (take ownSize l) s)
 unfolding message
-messages-same l s = from-same (message l s) (message (take 273 l) s) 16 1 (λ j h. rw (getD-take 273 l (heardAt (1 + j) + 0) (pos 0) (omega arith)))
+messages-same l s = from-same (message l s) (message (take ownSize l) s) 16 1 (λ j h. rw (getD-take ownSize l (heardAt (1 + j) + 0) (pos 0) (omega arith)))
 
 -- ---- what a state's lists have
-module _ (st : List ℤ) (h : length st ≡ 64) where
+module _ (st : List ℤ) (h : length st ≡ stateSize) where
   pub variables-length : length (stateOf st .variables) ≡ 16
   unfolding stateOf
   variables-length = row-length st 0 16 (omega arith)
@@ -100,32 +103,32 @@ module _ (main : Expr) (n : List ℤ) (a : ℕ) where
   unfolding plan
   planned o = rw (is-0 n (fire a) o refl refl)
 
-  round-is : round main (block n a) ≡ eval (row n (base a) 273) main (arguments (pos 0) (pos 0) (pos 0) (pos 0)) (atFirst (row n (base a) 273))
+  round-is : round main (block n a) ≡ eval (row n (base a) ownSize) main (arguments (pos 0) (pos 0) (pos 0) (pos 0)) (atFirst (row n (base a) ownSize))
   unfolding round
-  round-is = rw (take-take 273 529 (drop (base a) n) (omega arith), take-take 16 529 (drop (base a) n) (omega arith), take-take 16 273 (drop (base a) n) (omega arith))
+  round-is = rw (take-take ownSize blockSize (drop (base a) n) (omega arith), take-take 16 blockSize (drop (base a) n) (omega arith), take-take 16 ownSize (drop (base a) n) (omega arith))
 
   -- the cells of a after its round, stored where they are
-  stored-whole : (s : State) → base a + 529 ≤ length n → length (s .variables) ≡ 16 → length (s .sent) ≡ 16
+  stored-whole : (s : State) → base a + blockSize ≤ length n → length (s .variables) ≡ 16 → length (s .sent) ≡ 16
       → store n (base a) (after (block n a) s)
-      ≡ store (store n (base a) (s .variables)) (base a + 273) (joined (each (message (row n (base a) 273) s)))
+      ≡ store (store n (base a) (s .variables)) (base a + ownSize) (joined (each (message (row n (base a) ownSize) s)))
   unfolding after
   stored-whole s h v w =
-      let k : length (row n (base a) 529) ≡ 529 = row-length n (base a) 529 h in
-      two-in n (base a) 529 (s .variables) 273 (joined (each (message (block n a) s))) (omega arith)
+      let k : length (row n (base a) blockSize) ≡ blockSize = row-length n (base a) blockSize h in
+      two-in n (base a) blockSize (s .variables) ownSize (joined (each (message (block n a) s))) (omega arith)
       (omega (arith, joined-length (message (block n a) s) 16 1 16 (λ b. message-length (block n a) s b w)))
-      ∙ rw (messages-same (block n a) s, take-take 273 529 (drop (base a) n) (omega arith))
+      ∙ rw (messages-same (block n a) s, take-take ownSize blockSize (drop (base a) n) (omega arith))
 
-  module _ (r : ℤ) (first st : List ℤ) (x : Answer) (go : outOfRange (fire a) ≡ false) (e : stateOf first ≡ atFirst (row n (base a) 273))
-      (g : Gives (eval (row n (base a) 273) main (arguments (pos 0) (pos 0) (pos 0) (pos 0)) (stateOf first)) r st) where
+  module _ (here : List ℤ) (own : here ≡ row n (base a) ownSize) (r : ℤ) (first st : List ℤ) (x : Answer) (go : outOfRange (fire a) ≡ false)
+      (e : stateOf first ≡ atFirst here) (g : Gives (eval here main (arguments (pos 0) (pos 0) (pos 0) (pos 0)) (stateOf first)) r st) where
     gives : Gives (round main (block n a)) r st
-    gives = let q = rw e at g in rw round-is q
+    gives = let q = rw e at g in let p = rw own at q in rw round-is p
 
-    pub fires : (m : List ℤ) → faultOf st ≡ pos 0 → base a + 529 ≤ length n → Puts n (base a) (row n (base a) 273) st m → answerOf x ≡ (pos 0, r) → Fires main n a x m
+    pub fires : (m : List ℤ) → faultOf st ≡ pos 0 → base a + blockSize ≤ length n → length st ≡ stateSize → Puts n (base a) here st m → answerOf x ≡ (pos 0, r) → Fires main n a x m
     unfolding fired
-    fires m z h p q =
+    fires m z h k p q =
         let w = went (round main (block n a)) r st (block n a) gives z in
         record {
-          network = rw (planned go, w) (p .network ∙ sym (stored-whole (stateOf st) h (variables-length st (p .whole)) (sent-length st (p .whole))));
+          network = rw (planned go, w) (rw own at (p .network) ∙ sym (stored-whole (stateOf st) h (variables-length st k) (sent-length st k)));
           answer = rw (planned go, w) q;
         }
 
@@ -133,4 +136,4 @@ module _ (main : Expr) (n : List ℤ) (a : ℕ) where
     unfolding fired
     fails z q =
         let w = stopped (round main (block n a)) r st (block n a) gives z in
-        record { network = rw (planned go, w .is) (sym (store-row n (base a) 529)); answer = rw (planned go, w .is) (q (w .node) (w .says)) }
+        record { network = rw (planned go, w .is) (sym (store-row n (base a) blockSize)); answer = rw (planned go, w .is) (q (w .node) (w .says)) }

@@ -1,123 +1,104 @@
 // The event fire, on the network's cells, exactly as the crate event defines it.
 //
-// `here`: the device's own cells 0 to 272. `st`: the round's state (crate step).
+// `here`: the device's own cells, those up to its messages. `st`: the round's state (crate apply), lent by the run and made anew for each round.
 ghost use mathlib.Core.Path.{_≡_};
-ghost use Prim.Native.Nat.{_+_, _<_, _≤_};
+ghost use Prim.Native.Nat.{_+_, _*_, _<_, _≤_};
 ghost use lib.ListN.{length};
-ghost use Rattle.field.specs.Field.{each};
+ghost use Rattle.field.specs.Field.{devices, each};
 ghost use Rattle.network.specs.Cells.{row, store};
-ghost use Rattle.network.specs.Network.{noMessage};
+ghost use Rattle.network.specs.Network.{blockSize, pendingAt};
 ghost use Rattle.round.specs.Round.{message, joined};
-ghost use Rattle.step.specs.State.{stateOf};
+ghost use Rattle.apply.specs.State.{stateSize, stateOf};
 ghost use Rattle.words.specs.Trees.{treeAt};
-ghost use Rattle.fire.specs.Fires.{Begun, Puts, Ready, Fires};
+ghost use Rattle.effects.specs.Does.{IdleRow};
+ghost use Rattle.fire.specs.Fires.{ownSize, Begun, IdleRows, Puts, Ready, Fires};
 
-// The 273 cells from `at` on.
-fn own_cells(net: &[i32], at: usize) -> [i32; 273]
-    requires { ⌜ at + 273 ≤ length (now net) ⌝ }
-    ensures { λ r. ⌜ r ≡ row (now (net .entry)) at 273 ⌝ }
+// The device's own cells, from `at` on.
+fn own_cells(net: &[i32], at: usize) -> [i32; layout::OWN]
+    requires { ⌜ at + ownSize ≤ length (now net) ⌝ }
+    ensures { λ r. ⌜ r ≡ row (now (net .entry)) at ownSize ⌝ }
 {
-    let z: i32 = 0;
-    let mut here = [z; 273];
-    let mut i: usize = 0;
-    while i < 273 {
-        here[i] = net[at + i];
-        i += 1;
-    }
+    let mut here = [0; layout::OWN];
+    cells::copy(&mut here, 0, net, at, layout::OWN);
     here
 }
 
 // The state that a round begins with: the device's variables, nothing sent, no fault.
-fn begun(here: &[i32; 273]) -> [i32; 64]
-    requires { ⌜ length (now here) ≡ 273 ⌝ }
-    ensures { λ r. ⌜ Begun (now (here .entry)) r ⌝ }
+fn begin(here: &[i32; layout::OWN], st: &mut [i32])
+    requires { ⌜ (length (now here) ≡ ownSize) × (length (now st) ≡ stateSize) ⌝ }
+    ensures { λ _. ⌜ Begun (now (here .entry)) (now (st .exit)) ⌝ }
 {
-    let m: i32 = -2147483648;
-    let mut st = [m; 64];
-    st[32] = 0;
+    st[layout::FAULT] = 0;
     let mut i: usize = 0;
-    while i < 16 {
+    while i < layout::SENT {
         st[i] = here[i];
-        i += 1;
-    }
-    st
-}
-
-// The sixteen cells from `at` become the sixteen of `cells` from `from`.
-fn put_row(net: &mut [i32], at: usize, cells: &[i32; 64], from: usize)
-    requires { ⌜ (at + 16 ≤ length (now net)) × (from + 16 ≤ 64) × (length (now cells) ≡ 64) ⌝ }
-    ensures { λ _. ⌜ now (net .exit) ≡ store (now (net .entry)) at (row (now (cells .entry)) from 16) ⌝ }
-{
-    let mut i: usize = 0;
-    while i < 16 {
-        net[at + i] = cells[from + i];
+        st[layout::SENT + i] = layout::MARK;
         i += 1;
     }
 }
 
-// The row at `at`, to device 1 + b, after a round: with a link the slots sent, else nothing pending. `none` begins with a row with nothing pending.
-fn put_message(
-    net: &mut [i32],
-    at: usize,
-    here: &[i32; 273],
-    st: &[i32; 64],
-    none: &[i32; 64],
-    b: usize,
-)
-    requires { ⌜ (at + 16 ≤ length (now net)) × (b < 16) × (length (now st) ≡ 64) × (length (now none) ≡ 64) × (row (now none) 0 16 ≡ noMessage) ⌝ }
+// The row at `at`, to device 1 + b, after a round: with a link the slots sent, else nothing pending; a row that is so already is left alone.
+fn put_message(net: &mut [i32], at: usize, here: &[i32; layout::OWN], st: &[i32], b: usize)
+    requires { ⌜ (at + 16 ≤ length (now net)) × (b < devices) × (length (now st) ≡ stateSize) × IdleRow (row (now net) at 16) ⌝ }
     ensures { λ _. ⌜ now (net .exit) ≡ store (now (net .entry)) at (message (now (here .entry)) (stateOf (now (st .entry))) (1 + b)) ⌝ }
 {
-    if here[17 + 16 * b] == -2147483648 {
-        put_row(net, at, none, 0);
+    if here[layout::HEARD + layout::ROW * b] == layout::MARK {
+        if net[at] != 0 {
+            cells::no_message(net, at);
+        }
         return;
     }
-    put_row(net, at, st, 16);
+    cells::copy(net, at, st, layout::SENT, layout::ROW);
     net[at] = 1;
 }
 
-// The rows to all sixteen devices, from `at` on.
-fn put_messages(net: &mut [i32], at: usize, here: &[i32; 273], st: &[i32; 64])
-    requires { ⌜ (at + 256 ≤ length (now net)) × (length (now st) ≡ 64) ⌝ }
+// The rows to all devices, from `at` on.
+fn put_messages(net: &mut [i32], at: usize, here: &[i32; layout::OWN], st: &[i32])
+    requires { ⌜ (at + 16 * devices ≤ length (now net)) × (length (now st) ≡ stateSize) × IdleRows (now net) at ⌝ }
     ensures { λ _. ⌜ now (net .exit) ≡ store (now (net .entry)) at (joined (each (message (now (here .entry)) (stateOf (now (st .entry)))))) ⌝ }
 {
-    let m: i32 = -2147483648;
-    let mut none = [m; 64];
-    none[0] = 0;
     let mut b: usize = 0;
-    while b < 16 {
-        put_message(net, at + 16 * b, here, st, &none, b);
+    while b < layout::DEVICES {
+        put_message(net, at + layout::ROW * b, here, st, b);
         b += 1;
     }
 }
 
-// The device's cells from `at` on after a round that left `st`. The state goes by value, since only of those a proof is told how many cells there are.
-fn put_round(net: &mut [i32], at: usize, here: &[i32; 273], st: [i32; 64])
-    requires { ⌜ at + 529 ≤ length (now net) ⌝ }
-    ensures { λ _. ⌜ Puts (now (net .entry)) at (now (here .entry)) st (now (net .exit)) ⌝ }
+// The device's cells from `at` on after a round that left `st`.
+fn put_round(net: &mut [i32], at: usize, here: &[i32; layout::OWN], st: &[i32])
+    requires { ⌜ (at + blockSize ≤ length (now net)) × (length (now st) ≡ stateSize) × IdleRows (now net) (at + pendingAt 1) ⌝ }
+    ensures { λ _. ⌜ Puts (now (net .entry)) at (now (here .entry)) (now (st .entry)) (now (net .exit)) ⌝ }
 {
-    put_row(net, at, &st, 0);
-    put_messages(net, at + 273, here, &st);
+    cells::copy(net, at, st, 0, layout::ROW);
+    put_messages(net, at + layout::PENDING, here, st);
 }
 
 // Device a's round. A fault, or a number of no device, changes nothing.
-pub fn fire(t: &[u64; 256], u: &[u16; 256], main: u16, net: &mut [i32], a: u8) -> effects::Answer
+pub fn fire(
+    t: &[u64; layout::NODES],
+    u: &[u16; layout::NODES],
+    main: u16,
+    net: &mut [i32],
+    a: u8,
+    st: &mut [i32; layout::STATE],
+) -> effects::Answer
     requires { ⌜ Ready (now t) (now u) main (now net) ⌝ }
     ensures { λ r. ⌜ Fires (treeAt (now (t .entry)) main) (now (net .entry)) a r (now (net .exit)) ⌝ }
 {
     if effects::fire_refused(a) {
         return effects::Answer { code: 14, value: 0 };
     }
-    let at = ((a as usize) - 1) * 529;
+    let at = ((a as usize) - 1) * layout::BLOCK;
     let here = own_cells(&*net, at);
-    let mut st = begun(&here);
-    let v = evaluate::evaluate(t, u, &here, &mut st, main);
-    let f = st[32];
+    begin(&here, st);
+    let v = evaluate::evaluate(t, u, &here, st, main);
+    let f = st[layout::FAULT];
     if f != 0 {
         return effects::Answer {
             code: 17,
             value: f - 1,
         };
     }
-    put_round(net, at, &here, st);
+    put_round(net, at, &here, &*st);
     effects::Answer { code: 0, value: v }
 }

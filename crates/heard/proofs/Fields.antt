@@ -3,27 +3,27 @@ use mathlib.Core.Path.{_≡_, refl, sym, ap, _∙_}
 use mathlib.Core.Bool.{Bool, true, false, not, cond}
 use mathlib.Core.List.{List, _∷_}
 use mathlib.Core.Option.{Option, none, some}
-use Prim.Native.Nat.{ℕ, zero, suc, _+_, _*_, _-_, _<_}
-use native.Mathlib.Nat.{zero-add, lt-irrefl}
+use Prim.Native.Nat.{ℕ, zero, suc, _+_, _*_, _-_}
+use native.Mathlib.Nat.{zero-add}
 use native.Mathlib.Omega.{arith}
 use lib.IntN.{ℤ, pos}
-use lib.ListN.{length, getD, set, length-set}
-use lib.Seq.{getD-set-same, getD-set-other}
-use borrow.Author.Count.{below-more}
+use lib.ListN.{getD}
 use Rattle.number.specs.Number.{eqZ, mark}
 use Rattle.field.specs.Field.{from}
 use Rattle.round.specs.Round.{heard, present, distance, heardIn, rangeIn}
 use Rattle.domain.specs.Held.{fieldOf}
 use Rattle.domain.specs.Members.{built}
 use Rattle.domain.proofs.Laws.{from-same, built-field}
+use Rattle.domain.proofs.Fields.{Filled}
+use Rattle.network.specs.Network.{heardAt}
 use Rattle.heard.specs.Present.{isPresent, isRanged}
 
 -- what was heard in slot i from device b + 1, and the distance of the link to it
 abbrev pub cellAt : List ℤ → ℕ → ℕ → ℤ
-cellAt here i b = getD here (17 + 16 * b + i) (pos 0)
+cellAt here i b = getD here (heardAt 1 + 16 * b + i) (pos 0)
 
 abbrev pub linkAt : List ℤ → ℕ → ℤ
-linkAt here b = getD here (17 + 16 * b) (pos 0)
+linkAt here b = getD here (heardAt 1 + 16 * b) (pos 0)
 
 shifted : {A : Type 0} (g : ℕ → A) (n a : ℕ) → from (suc a) n g ≡ from a n (λ k. g (suc k))
 unfolding from
@@ -34,7 +34,7 @@ same-heard : (here : List ℤ) (i k : ℕ) → heard here i (suc k) ≡ cellAt h
 same-heard here i k = let e : suc k - 1 ≡ k = omega arith in rw e
 
 same-link : (here : List ℤ) (k : ℕ) → distance here (suc k) ≡ linkAt here k
-same-link here k = let e : 17 + 16 * (suc k - 1) + 0 ≡ 17 + 16 * k = omega arith in ap (λ (j : ℕ). getD here j (pos 0)) e
+same-link here k = let e : heardAt (suc k) + 0 ≡ heardAt 1 + 16 * k = omega arith in ap (λ (j : ℕ). getD here j (pos 0)) e
 
 kept : (t : Bool) (z : ℤ) → cond (not t) (some z) none ≡ cond t none (some z)
 kept true z = refl
@@ -43,18 +43,6 @@ kept false z = refl
 ranged : (t u : Bool) (d : ℤ) → cond (cond t (not u) false) (some d) none ≡ cond t (cond u none (some d)) none
 ranged true u d = kept u d
 ranged false u d = refl
-
--- the cells 0 to k - 1 are f's
-abbrev pub Filled : (ℕ → ℤ) → ℕ → List ℤ → Type 0
-Filled f k out = (length out ≡ 16) × ((j : ℕ) → j < k → getD out j (pos 0) ≡ f j)
-
-pub filled-more : (f : ℕ → ℤ) (k : ℕ) (out : List ℤ) (v : ℤ) → k < 16 → Filled f k out → v ≡ f k → Filled f (k + 1) (set out k v)
-filled-more f k out v b p e = (
-  length-set out k v ∙ p .0,
-  below-more (λ (j : ℕ). getD (set out k v) j (pos 0) ≡ f j) k
-      (λ j h. getD-set-other out k j v (pos 0) (λ q. lt-irrefl k (rw q at h)) ∙ p .1 j h)
-      (getD-set-same out k v (pos 0) (rw (p .0) b) ∙ e),
-)
 
 -- the field of a domain that was built by p, over cells that f fills
 built-each : (p : ℕ → Bool) (f : ℕ → ℤ) (g : ℕ → Option ℤ) (dom : ℕ) (cells : List ℤ) → dom ≡ built p 16 → Filled f 16 cells

@@ -1,6 +1,10 @@
 // The fields of what a device heard: the numbers in a slot, and the distances of its links.
 //
-// `here`: the device's own cells 0 to 272.
+// `here`: what a round reads, the device's cells up to its messages.
+use layout::HEARD;
+use layout::MARK;
+use layout::OWN;
+use layout::ROW;
 ghost use mathlib.Core.Path.{_≡_};
 ghost use Prim.Native.Nat.{_<_};
 ghost use Rattle.domain.specs.Held.{held};
@@ -9,26 +13,26 @@ ghost use Rattle.round.specs.Round.{heardIn, rangeIn};
 ghost use Rattle.heard.specs.Present.{isPresent, isRanged};
 
 // A domain's highest bit, where a cell is not absent; where a device is heard with 0 and has a distance.
-fn mark_of(v: i32) -> u16
+fn bit_of(v: i32) -> u16
     ensures { λ r. ⌜ r ≡ bit (isPresent v) ⌝ }
 {
-    if v == -2147483648 {
+    if v == MARK {
         return 0;
     }
     32768
 }
 
-fn mark_in(v: i32, d: i32) -> u16
+fn bit_in(v: i32, d: i32) -> u16
     ensures { λ r. ⌜ r ≡ bit (isRanged v d) ⌝ }
 {
     if v == 0 {
-        return mark_of(d);
+        return bit_of(d);
     }
     0
 }
 
 // The field of the devices heard in a slot.
-pub fn heard_of(here: &[i32; 273], slot: usize) -> domain::Held
+pub fn heard_of(here: &[i32; OWN], slot: usize) -> domain::Held
     requires { ⌜ slot < 16 ⌝ }
     ensures { λ r. ⌜ held r ≡ heardIn (now (here .entry)) slot ⌝ }
 {
@@ -37,19 +41,19 @@ pub fn heard_of(here: &[i32; 273], slot: usize) -> domain::Held
     let mut dom: u16 = 0;
     let mut b: usize = 0;
     while b < 16 {
-        let v = here[17 + 16 * b + slot];
+        let v = here[HEARD + ROW * b + slot];
         cells[b] = v;
-        dom = dom / 2 + mark_of(v);
+        dom = dom / 2 + bit_of(v);
         b += 1;
     }
     domain::Held {
-        dom: dom,
         cells: cells,
+        dom: dom,
     }
 }
 
 // The field of link distances, for the devices heard with 0 in a slot.
-pub fn range_of(here: &[i32; 273], slot: usize) -> domain::Held
+pub fn range_of(here: &[i32; OWN], slot: usize) -> domain::Held
     requires { ⌜ slot < 16 ⌝ }
     ensures { λ r. ⌜ held r ≡ rangeIn (now (here .entry)) slot ⌝ }
 {
@@ -58,14 +62,14 @@ pub fn range_of(here: &[i32; 273], slot: usize) -> domain::Held
     let mut dom: u16 = 0;
     let mut b: usize = 0;
     while b < 16 {
-        let v = here[17 + 16 * b + slot];
-        let d = here[17 + 16 * b];
+        let v = here[HEARD + ROW * b + slot];
+        let d = here[HEARD + ROW * b];
         cells[b] = d;
-        dom = dom / 2 + mark_in(v, d);
+        dom = dom / 2 + bit_in(v, d);
         b += 1;
     }
     domain::Held {
-        dom: dom,
         cells: cells,
+        dom: dom,
     }
 }

@@ -1,3 +1,3 @@
-pub mod Marks
+pub mod Taken
 pub mod Numbers
 pub mod Reads

@@ -4,8 +4,11 @@ ghost use mathlib.Core.Bool.{Bool};
 ghost use mathlib.Core.List.{List};
 ghost use Prim.Native.Nat.{ℕ, _<_, _≤_};
 ghost use lib.ListN.{length, getD};
-ghost use Rattle.kinds.specs.Marks.{marksOf};
-ghost use Rattle.kinds.specs.Reads.{Form, readOf, ReadsNode, ReadsLeaf, ReadsKids};
+ghost use Rattle.program.specs.Table.{nodeLimit};
+ghost use Rattle.shapes.specs.Shapes.{byteValues, noItem, operatorItem};
+ghost use Rattle.shapes.specs.Kinds.{constantKind, parameterKind, variableKind, senseKind, repKind, nbrKind, rangeKind, foldByKind, callKind};
+ghost use Rattle.kinds.specs.Taken.{takenOf};
+ghost use Rattle.kinds.specs.Reads.{Form, readOf, ReadsNode, ReadsLeaf, ReadsKids, ReadsSlot, ReadsSlotOnly, ReadsKept};
 
 // Number 0: the node that was read. Else the refusal.
 pub struct Read {
@@ -42,22 +45,22 @@ fn given(number: u32, kind: u8, item: u8, kids: u8, a: u8, b: u8, c: u8) -> Read
     }
 }
 
-// Kind 0: a constant, not the mark.
+// A constant, not the mark.
 pub fn constant(b: &[u8]) -> Read
-    requires { ⌜ getD (now b) 0 0 ≡ 0 ⌝ }
+    requires { ⌜ getD (now b) 0 0 ≡ constantKind ⌝ }
     ensures { λ r. ⌜ ReadsLeaf (now (b .entry)) r ⌝ }
 {
     if b.len() != 5 {
         return no_node(1);
     }
-    let c = reader::be32(b[1], b[2], b[3], b[4]);
-    if c == 2147483648 {
+    let c = wire_reader::be32(b[1], b[2], b[3], b[4]);
+    if c == layout::MARK_BITS {
         return no_node(3);
     }
     Read {
         number: 0,
         node: nodes::Node {
-            kind: 0,
+            kind: shapes::CONSTANT,
             item: 0,
             kids: 0,
             a: 0,
@@ -69,9 +72,9 @@ pub fn constant(b: &[u8]) -> Read
     }
 }
 
-// Kind 1: a parameter.
+// A parameter.
 pub fn parameter(b: &[u8]) -> Read
-    requires { ⌜ getD (now b) 0 0 ≡ 1 ⌝ }
+    requires { ⌜ getD (now b) 0 0 ≡ parameterKind ⌝ }
     ensures { λ r. ⌜ ReadsLeaf (now (b .entry)) r ⌝ }
 {
     if b.len() != 2 {
@@ -81,12 +84,12 @@ pub fn parameter(b: &[u8]) -> Read
     if 4 <= item {
         return no_node(3);
     }
-    given(0, 1, item, 0, 0, 0, 0)
+    given(0, shapes::PARAMETER, item, 0, 0, 0, 0)
 }
 
-// Kind 2: a variable.
+// A variable.
 pub fn variable(b: &[u8]) -> Read
-    requires { ⌜ getD (now b) 0 0 ≡ 2 ⌝ }
+    requires { ⌜ getD (now b) 0 0 ≡ variableKind ⌝ }
     ensures { λ r. ⌜ ReadsLeaf (now (b .entry)) r ⌝ }
 {
     if b.len() != 2 {
@@ -96,12 +99,12 @@ pub fn variable(b: &[u8]) -> Read
     if 16 <= read {
         return no_node(3);
     }
-    given(0, 2, read, 0, 0, 0, 0)
+    given(0, shapes::VARIABLE, read, 0, 0, 0, 0)
 }
 
-// Kinds 3 and 10: an operator over two children.
-pub fn operator(kind: u8, b: &[u8], n: usize, named: &mut [bool; 256]) -> Read
-    requires { ⌜ (getD (now b) 0 0 ≡ kind) × Form kind 1 1 2 × (n < 256) × (length (now named) ≡ 256) ⌝ }
+// An operator, or a fold by one: two children.
+pub fn operator(kind: u8, b: &[u8], n: usize, named: &mut [bool; layout::NODES]) -> Read
+    requires { ⌜ (getD (now b) 0 0 ≡ kind) × Form kind operatorItem 1 2 × (n < nodeLimit) × (length (now named) ≡ nodeLimit) ⌝ }
     ensures { λ r. ⌜ ReadsKids (now (b .entry)) n (now (named .entry)) r (now (named .exit)) ⌝ }
 {
     if b.len() != 4 {
@@ -113,27 +116,32 @@ pub fn operator(kind: u8, b: &[u8], n: usize, named: &mut [bool; 256]) -> Read
     }
     let x = b[2];
     let y = b[3];
-    let e = marks::two_children(x, y, n, named);
+    let e = taken::two_children(x, y, n, named);
     given(e, kind, item, 2, x, y, 0)
 }
 
-// Kind 4: sense, one child.
-pub fn sense(b: &[u8], n: usize, named: &mut [bool; 256]) -> Read
-    requires { ⌜ (getD (now b) 0 0 ≡ 4) × (n < 256) × (length (now named) ≡ 256) ⌝ }
+// Sense, one child.
+pub fn sense(b: &[u8], n: usize, named: &mut [bool; layout::NODES]) -> Read
+    requires { ⌜ (getD (now b) 0 0 ≡ senseKind) × (n < nodeLimit) × (length (now named) ≡ nodeLimit) ⌝ }
     ensures { λ r. ⌜ ReadsKids (now (b .entry)) n (now (named .entry)) r (now (named .exit)) ⌝ }
 {
     if b.len() != 2 {
         return no_node(1);
     }
     let x = b[1];
-    let e = marks::one_child(x, n, named);
-    given(e, 4, 0, 1, x, 0, 0)
+    let e = taken::one_child(x, n, named);
+    given(e, shapes::SENSE, 0, 1, x, 0, 0)
 }
 
-// Kind 5: the variable that a rep keeps, and two children.
-pub fn rep(b: &[u8], n: usize, named: &mut [bool; 256], kept: &mut [bool; 256]) -> Read
-    requires { ⌜ (getD (now b) 0 0 ≡ 5) × (n < 256) × (length (now named) ≡ 256) × (length (now kept) ≡ 256) ⌝ }
-    ensures { λ r. ⌜ ((defs : ℕ) (counts : List ℕ) (slots : List Bool) → ReadsNode (now (b .entry)) n defs counts (marksOf (now (named .entry)) slots (now (kept .entry))) r (marksOf (now (named .exit)) slots (now (kept .exit)))) ⌝ }
+// The variable that a rep keeps, and two children.
+pub fn rep(
+    b: &[u8],
+    n: usize,
+    named: &mut [bool; layout::NODES],
+    kept: &mut [bool; layout::BYTES],
+) -> Read
+    requires { ⌜ (getD (now b) 0 0 ≡ repKind) × (n < nodeLimit) × (length (now named) ≡ nodeLimit) × (length (now kept) ≡ byteValues) ⌝ }
+    ensures { λ r. ⌜ ReadsKept (now (b .entry)) n (now (named .entry)) (now (kept .entry)) r (now (named .exit)) (now (kept .exit)) ⌝ }
 {
     if b.len() != 4 {
         return no_node(1);
@@ -144,19 +152,19 @@ pub fn rep(b: &[u8], n: usize, named: &mut [bool; 256], kept: &mut [bool; 256]) 
     }
     let x = b[2];
     let y = b[3];
-    let e = marks::two_children(x, y, n, named);
+    let e = taken::two_children(x, y, n, named);
     if e != 0 {
         return no_node(e);
     }
-    if marks::take(true, keeps, kept) {
+    if taken::take(true, keeps, kept) {
         return no_node(5);
     }
-    given(0, 5, keeps, 2, x, y, 0)
+    given(0, shapes::REP, keeps, 2, x, y, 0)
 }
 
-// Kinds 6 and 7: if and mux, three children.
-pub fn choice(kind: u8, b: &[u8], n: usize, named: &mut [bool; 256]) -> Read
-    requires { ⌜ (getD (now b) 0 0 ≡ kind) × Form kind 0 0 3 × (n < 256) × (length (now named) ≡ 256) ⌝ }
+// If and mux, three children.
+pub fn choice(kind: u8, b: &[u8], n: usize, named: &mut [bool; layout::NODES]) -> Read
+    requires { ⌜ (getD (now b) 0 0 ≡ kind) × Form kind noItem 0 3 × (n < nodeLimit) × (length (now named) ≡ nodeLimit) ⌝ }
     ensures { λ r. ⌜ ReadsKids (now (b .entry)) n (now (named .entry)) r (now (named .exit)) ⌝ }
 {
     if b.len() != 4 {
@@ -165,14 +173,19 @@ pub fn choice(kind: u8, b: &[u8], n: usize, named: &mut [bool; 256]) -> Read
     let x = b[1];
     let y = b[2];
     let z = b[3];
-    let e = marks::three_children(x, y, z, n, named);
+    let e = taken::three_children(x, y, z, n, named);
     given(e, kind, 0, 3, x, y, z)
 }
 
-// Kind 8: a slot, and one child.
-pub fn nbr(b: &[u8], n: usize, named: &mut [bool; 256], slots: &mut [bool; 256]) -> Read
-    requires { ⌜ (getD (now b) 0 0 ≡ 8) × (n < 256) × (length (now named) ≡ 256) × (length (now slots) ≡ 256) ⌝ }
-    ensures { λ r. ⌜ ((defs : ℕ) (counts : List ℕ) (kept : List Bool) → ReadsNode (now (b .entry)) n defs counts (marksOf (now (named .entry)) (now (slots .entry)) kept) r (marksOf (now (named .exit)) (now (slots .exit)) kept)) ⌝ }
+// Nbr: a slot, and one child.
+pub fn nbr(
+    b: &[u8],
+    n: usize,
+    named: &mut [bool; layout::NODES],
+    slots: &mut [bool; layout::BYTES],
+) -> Read
+    requires { ⌜ (getD (now b) 0 0 ≡ nbrKind) × (n < nodeLimit) × (length (now named) ≡ nodeLimit) × (length (now slots) ≡ byteValues) ⌝ }
+    ensures { λ r. ⌜ ReadsSlot (now (b .entry)) n (now (named .entry)) (now (slots .entry)) r (now (named .exit)) (now (slots .exit)) ⌝ }
 {
     if b.len() != 3 {
         return no_node(1);
@@ -185,20 +198,20 @@ pub fn nbr(b: &[u8], n: usize, named: &mut [bool; 256], slots: &mut [bool; 256])
         return no_node(3);
     }
     let x = b[2];
-    let e = marks::one_child(x, n, named);
+    let e = taken::one_child(x, n, named);
     if e != 0 {
         return no_node(e);
     }
-    if marks::take(true, slot, slots) {
+    if taken::take(true, slot, slots) {
         return no_node(5);
     }
-    given(0, 8, slot, 1, x, 0, 0)
+    given(0, shapes::NBR, slot, 1, x, 0, 0)
 }
 
-// Kind 9: the slot of a range.
-pub fn range(b: &[u8], slots: &mut [bool; 256]) -> Read
-    requires { ⌜ (getD (now b) 0 0 ≡ 9) × (length (now slots) ≡ 256) ⌝ }
-    ensures { λ r. ⌜ ((n defs : ℕ) (counts : List ℕ) (named kept : List Bool) → n < 256 → ReadsNode (now (b .entry)) n defs counts (marksOf named (now (slots .entry)) kept) r (marksOf named (now (slots .exit)) kept)) ⌝ }
+// The slot of an nbr-range.
+pub fn range(b: &[u8], slots: &mut [bool; layout::BYTES]) -> Read
+    requires { ⌜ (getD (now b) 0 0 ≡ rangeKind) × (length (now slots) ≡ byteValues) ⌝ }
+    ensures { λ r. ⌜ ReadsSlotOnly (now (b .entry)) (now (slots .entry)) r (now (slots .exit)) ⌝ }
 {
     if b.len() != 2 {
         return no_node(1);
@@ -210,16 +223,16 @@ pub fn range(b: &[u8], slots: &mut [bool; 256]) -> Read
     if 16 <= item {
         return no_node(3);
     }
-    if marks::take(true, item, slots) {
+    if taken::take(true, item, slots) {
         return no_node(5);
     }
-    given(0, 9, item, 0, 0, 0, 0)
+    given(0, shapes::RANGE, item, 0, 0, 0, 0)
 }
 
-// Kind 11: the definition that a fold is by, and two children.
-pub fn fold_by(b: &[u8], n: usize, defs: usize, named: &mut [bool; 256]) -> Read
-    requires { ⌜ (getD (now b) 0 0 ≡ 11) × (n < 256) × (length (now named) ≡ 256) ⌝ }
-    ensures { λ r. ⌜ ((counts : List ℕ) (slots kept : List Bool) → ReadsNode (now (b .entry)) n defs counts (marksOf (now (named .entry)) slots kept) r (marksOf (now (named .exit)) slots kept)) ⌝ }
+// The definition that a fold is by, and two children.
+pub fn fold_by(b: &[u8], n: usize, defs: usize, named: &mut [bool; layout::NODES]) -> Read
+    requires { ⌜ (getD (now b) 0 0 ≡ foldByKind) × (n < nodeLimit) × (length (now named) ≡ nodeLimit) ⌝ }
+    ensures { λ r. ⌜ ((counts : List ℕ) (slots kept : List Bool) → ReadsNode (now (b .entry)) n defs counts (takenOf (now (named .entry)) slots kept) r (takenOf (now (named .exit)) slots kept)) ⌝ }
 {
     if b.len() != 4 {
         return no_node(1);
@@ -230,14 +243,20 @@ pub fn fold_by(b: &[u8], n: usize, defs: usize, named: &mut [bool; 256]) -> Read
     }
     let x = b[2];
     let y = b[3];
-    let e = marks::two_children(x, y, n, named);
-    given(e, 11, item, 2, x, y, 0)
+    let e = taken::two_children(x, y, n, named);
+    given(e, shapes::FOLD_BY, item, 2, x, y, 0)
 }
 
-// Kind 12: a definition, and as many children as it has parameters.
-pub fn call(b: &[u8], n: usize, defs: usize, counts: &[u8; 256], named: &mut [bool; 256]) -> Read
-    requires { ⌜ (getD (now b) 0 0 ≡ 12) × (n < 256) × (length (now named) ≡ 256) × ((d : ℕ) → d < defs → getD (now counts) d 0 ≤ 4) ⌝ }
-    ensures { λ r. ⌜ ((slots kept : List Bool) → ReadsNode (now (b .entry)) n defs (now (counts .entry)) (marksOf (now (named .entry)) slots kept) r (marksOf (now (named .exit)) slots kept)) ⌝ }
+// A call: a definition, and as many children as it has parameters.
+pub fn call(
+    b: &[u8],
+    n: usize,
+    defs: usize,
+    counts: &[u8; layout::BYTES],
+    named: &mut [bool; layout::NODES],
+) -> Read
+    requires { ⌜ (getD (now b) 0 0 ≡ callKind) × (n < nodeLimit) × (length (now named) ≡ nodeLimit) × ((d : ℕ) → d < defs → getD (now counts) d 0 ≤ 4) ⌝ }
+    ensures { λ r. ⌜ ((slots kept : List Bool) → ReadsNode (now (b .entry)) n defs (now (counts .entry)) (takenOf (now (named .entry)) slots kept) r (takenOf (now (named .exit)) slots kept)) ⌝ }
 {
     if b.len() < 2 {
         return no_node(1);
@@ -251,10 +270,10 @@ pub fn call(b: &[u8], n: usize, defs: usize, counts: &[u8; 256], named: &mut [bo
         return no_node(1);
     }
     if k == 0 {
-        return given(0, 12, d, 0, 0, 0, 0);
+        return given(0, shapes::CALL, d, 0, 0, 0, 0);
     }
     let x = nodes::Node {
-        kind: 12,
+        kind: shapes::CALL,
         item: d,
         kids: k,
         a: nodes::get(b, 2),
@@ -263,6 +282,6 @@ pub fn call(b: &[u8], n: usize, defs: usize, counts: &[u8; 256], named: &mut [bo
         d: nodes::get(b, 5),
         constant: 0,
     };
-    let e = marks::children(x, n, named);
+    let e = taken::children(x, n, named);
     Read { number: e, node: x }
 }

@@ -1,34 +1,43 @@
-// A node that is a leaf: a constant, a parameter or a variable.
+// Nodes that are done in place: a leaf (constant, parameter, variable), and an operator on two leaves.
 //
-// `t`: a word a node. `u`: the variables of the reps under each node. `here`: the device's own cells 0 to 272.
-// `st`: the state (crate step). `env`: the parameters. `n`: the node.
-ghost use Prim.Native.Nat.{_<_};
+// `t`: a word a node. `st`: the state (crate apply). `env`: the parameters. `n`: the node.
+use layout::NODES;
+use layout::STATE;
+use unpack::CONSTANT;
+use unpack::PARAMETER;
+ghost use lib.IntN.{ℤ};
+ghost use mathlib.Core.List.{List};
 ghost use Rattle.round.specs.Round.{eval};
-ghost use Rattle.words.specs.Word.{form, word};
 ghost use Rattle.words.specs.Trees.{treeAt};
-ghost use Rattle.step.specs.State.{stateOf, Gives};
-ghost use Rattle.leaf.specs.Asked.{Number};
+ghost use Rattle.apply.specs.State.{stateOf, Gives};
+ghost use Rattle.leaf.specs.Asked.{IsLeaf, IsPair};
 
-pub fn leaf(
-    t: &[u64; 256],
-    u: &[u16; 256],
-    here: &[i32; 273],
-    st: &mut [i32; 64],
-    env: &[i32; 4],
-    n: u16,
-) -> i32
-    requires { ⌜ (Number (now t) (now u) (now st) n) × (form (word (now t) n) < 3) ⌝ }
-    ensures { λ r. ⌜ Gives (eval (now (here .entry)) (treeAt (now (t .entry)) n) (now (env .entry)) (stateOf (now (st .entry)))) r (now (st .exit)) ⌝ }
+// What a leaf says.
+pub fn leaf(t: &[u64; NODES], st: &[i32; STATE], env: &[i32; 4], n: u16) -> i32
+    requires { ⌜ IsLeaf (now t) (now st) n ⌝ }
+    ensures { λ r. ⌜ ((here : List ℤ) → Gives (eval here (treeAt (now (t .entry)) n) (now (env .entry)) (stateOf (now (st .entry)))) r (now (st .entry))) ⌝ }
 {
     let i = n as usize;
     let w = t[i];
-    let kind = unpack::form_of(w);
-    if kind == 0 {
+    let form = unpack::form_of(w);
+    if form == CONSTANT {
         return unpack::constant_of(w);
     }
     let p = unpack::item_of(w) as usize;
-    if kind == 1 {
+    if form == PARAMETER {
         return env[p];
     }
     st[p]
+}
+
+// An operator on two leaves: neither faults, so only the operator can.
+pub fn pair(t: &[u64; NODES], st: &mut [i32; STATE], env: &[i32; 4], n: u16) -> i32
+    requires { ⌜ IsPair (now t) (now st) n ⌝ }
+    ensures { λ r. ⌜ ((here : List ℤ) → Gives (eval here (treeAt (now (t .entry)) n) (now (env .entry)) (stateOf (now (st .entry)))) r (now (st .exit))) ⌝ }
+{
+    let i = n as usize;
+    let w = t[i];
+    let x = leaf(t, &*st, env, unpack::first(w));
+    let y = leaf(t, &*st, env, unpack::second(w));
+    apply::number_op(st, n, unpack::item_of(w), x, y)
 }

@@ -1,14 +1,15 @@
 -- Texts put one behind the other. Assumes nothing.
 use mathlib.Core.Path.{_≡_, refl, sym, ap, _∙_}
 use mathlib.Core.List.{List, [], _∷_, _++_, append-assoc}
-use Prim.Native.Nat.{ℕ, zero, suc, _+_, _-_, _*_, _≤_, _<_}
+use Prim.Native.Nat.{ℕ, suc, _+_, _-_, _*_, _≤_, _<_}
 use native.Mathlib.Omega.{arith}
 use native.Mathlib.Nat.{add-zero}
 use native.Mathlib.Numerals.{add-one}
 use lib.IntN.{ℤ, pos}
 use lib.ListN.{length, take, set, getD}
 use lib.Seq.{take-suc, take-suc-set, length-take-le}
-use Rattle.lines.specs.Text.{line, lines, Put, Begins}
+use Rattle.event.specs.Calls.{answerWidth}
+use Rattle.lines.specs.Text.{lineRoom, line, lines, Put, Begins}
 
 module _ {A : Type 0} where
   pub append-nil : (l : List A) → l ++ [] ≡ l
@@ -55,15 +56,19 @@ module _ (n : ℕ) (cells : List ℤ) where
   lines-none out = let e : n - 0 ≡ n = omega arith in rw e
 
   pub lines-more : (out after : List ℕ) (at r i : ℕ) → i < n → Left out at i
-      → Put out at (line i (getD cells (2 * i) (pos 0)) (getD cells (2 * i + 1) (pos 0))) 80 after r → Left after r (i + 1)
+      → Put out at (line i (getD cells (answerWidth * i) (pos 0)) (getD cells (answerWidth * i + 1) (pos 0))) lineRoom after r → Left after r (i + 1)
   unfolding lines
   lines-more out after at r i h l p =
       let e : n - i ≡ suc (n - (i + 1)) = omega arith in
-      let now = line i (getD cells (2 * i) (pos 0)) (getD cells (2 * i + 1) (pos 0)) in
+      let now = line i (getD cells (answerWidth * i) (pos 0)) (getD cells (answerWidth * i + 1) (pos 0)) in
       let rest = lines (suc i) (n - (i + 1)) cells in
       ap (λ (k : ℕ). take r after ++ lines k (n - (i + 1)) cells) (add-one i)
       ∙ ap (_++ rest) (p .reads) ∙ append-assoc (take at out) now rest ∙ ap (λ (k : ℕ). take at out ++ lines i k cells) (sym e) ∙ l
 
   pub lines-all : (out : List ℕ) (at i : ℕ) → i ≡ n → at ≤ length out → Left out at i → Begins out at (lines 0 n cells)
   unfolding lines
-  lines-all out at i h k l = let e : 0 ≡ n - i = omega arith in record { counts = (k, sym (length-take-le at out k)); reads = sym (append-nil (take at out)) ∙ ap (λ (m : ℕ). take at out ++ lines i m cells) e ∙ l }
+  lines-all out at i h k l = let e : 0 ≡ n - i = omega arith in record {
+    counts = (k, sym (length-take-le at out k));
+    reads = sym (append-nil (take at out)) ∙ ap
+        (λ (m : ℕ). take at out ++ lines i m cells) e ∙ l;
+  }

@@ -5,19 +5,19 @@ use Prim.Native.Nat.{ℕ}
 use native.Mathlib.Omega.{arith}
 use lib.IntN.{negsuc}
 use Rattle.io.specs.Digits.{Fewest}
-use Rattle.lines.specs.Text.{spelt, decimal, signed}
+use Rattle.lines.specs.Text.{spelt, decimal, signedText}
 use Rattle.lines.specs.Example.{Example}
 use Rattle.lines.proofs.Digits.{in-decimal}
 
 ten : Fewest 10 1 2147483647 10
 ten = (omega arith, omega arith, λ _. omega arith)
 
-small : (decimal 0 ≡ 48 ∷ []) × (decimal 1023 ≡ 49 ∷ 48 ∷ 50 ∷ 51 ∷ []) × (signed (negsuc 4) ≡ 45 ∷ 53 ∷ [])
-unfolding spelt decimal signed
+small : (decimal 0 ≡ 48 ∷ []) × (decimal 1023 ≡ 49 ∷ 48 ∷ 50 ∷ 51 ∷ []) × (signedText (negsuc 4) ≡ 45 ∷ 53 ∷ [])
+unfolding spelt decimal signedText
 small = (refl, refl, refl)
 
 pub shown : Example
-unfolding signed
+unfolding signedText
 shown =
     record {
       zero = small .0;

@@ -6,6 +6,7 @@ use Prim.Native.Nat.{ℕ, zero, suc, _+_, _*_, _/_, _%_, _≤_}
 use lib.ListN.{take, getD}
 use lib.Dec.{ltb}
 use lib.IntN.{ℤ, pos, negsuc}
+use Rattle.event.specs.Calls.{answerWidth}
 use Rattle.io.specs.Counts.{Counts}
 
 -- a digit; the digits of n with none in front that is not needed, k + 1 at the most
@@ -21,9 +22,9 @@ unfoldable pub decimal : ℕ → List ℕ
 decimal n = spelt n n
 
 -- a minus before the digits where it is negative
-unfoldable pub signed : ℤ → List ℕ
-signed (pos n) = decimal n
-signed (negsuc n) = 45 ∷ decimal (suc n)
+unfoldable pub signedText : ℤ → List ℕ
+signedText (pos n) = decimal n
+signedText (negsuc n) = 45 ∷ decimal (suc n)
 
 abbrev pub space : List ℕ
 space = 32 ∷ []
@@ -33,12 +34,12 @@ lineEnd = 10 ∷ []
 
 -- "prints per event its index from 0, code and value"
 unfoldable pub line : ℕ → ℤ → ℤ → List ℕ
-line i code value = decimal i ++ space ++ signed code ++ space ++ signed value ++ lineEnd
+line i code value = decimal i ++ space ++ signedText code ++ space ++ signedText value ++ lineEnd
 
--- the lines of the n events from i on, whose answers stand in pairs of cells: event i has the cells 2i and 2i + 1
+-- the lines of the n events from i on, whose answers stand in pairs of cells, event i's in pair i
 unfoldable pub lines : ℕ → ℕ → List ℤ → List ℕ
 lines i zero cells = []
-lines i (suc n) cells = line i (getD cells (2 * i) (pos 0)) (getD cells (2 * i + 1) (pos 0)) ++ lines (suc i) n cells
+lines i (suc n) cells = line i (getD cells (answerWidth * i) (pos 0)) (getD cells (answerWidth * i + 1) (pos 0)) ++ lines (suc i) n cells
 
 -- "the one line `refused N P`"
 abbrev pub word : List ℕ
@@ -46,6 +47,10 @@ word = 114 ∷ 101 ∷ 102 ∷ 117 ∷ 115 ∷ 101 ∷ 100 ∷ 32 ∷ []
 
 unfoldable pub refused : ℕ → ℕ → List ℕ
 refused number place = word ++ decimal number ++ space ++ decimal place ++ lineEnd
+
+-- bytes in which every line fits
+abbrev pub lineRoom : ℕ
+lineRoom = 80
 
 -- text was put at `at` into a buffer that held `before` and then holds `after`, up to `r`; it took at most `most` bytes
 pub record Put (before : List ℕ) (at : ℕ) (text : List ℕ) (most : ℕ) (after : List ℕ) (r : ℕ) : Type 0 where

@@ -1,12 +1,10 @@
 // The lines that the replay prints, put one behind the other into a lent buffer.
 ghost use mathlib.Core.Path.{_≡_};
 ghost use Prim.Native.Nat.{_+_, _*_, _≤_};
-ghost use lib.ListN.{length, take};
+ghost use lib.ListN.{length};
 ghost use lib.IntN.{natAbs};
-ghost use Rattle.lines.specs.Text.{decimal, signed, line, lines, refused, Put, Begins};
-
-// Room for 1,024 lines of at most 80 bytes, one for each event that 4,096 bytes can hold.
-pub const ROOM: usize = 81920;
+ghost use Rattle.event.specs.Calls.{answerWidth};
+ghost use Rattle.lines.specs.Text.{lineRoom, decimal, signedText, line, lines, refused, Put, Begins};
 
 // Puts a text at `at` into the buffer, and answers where the next one goes. The same of each `put_` below.
 fn put(text: &[u8], out: &mut [u8], at: usize) -> usize
@@ -43,7 +41,7 @@ fn size(x: i32) -> u64
 
 fn put_signed(x: i32, out: &mut [u8], at: usize) -> usize
     requires { ⌜ at + 21 ≤ length (now out) ⌝ }
-    ensures { λ r. ⌜ Put (now (out .entry)) at (signed x) 21 (now (out .exit)) r ⌝ }
+    ensures { λ r. ⌜ Put (now (out .entry)) at (signedText x) 21 (now (out .exit)) r ⌝ }
 {
     if x < 0 {
         let at = put(b"-", out, at);
@@ -52,10 +50,10 @@ fn put_signed(x: i32, out: &mut [u8], at: usize) -> usize
     put_decimal(size(x), out, at)
 }
 
-// An event's line. 65 bytes at the most, so that 80 are room enough.
+// An event's line: 65 bytes at the most, so that the room of a line is enough.
 fn put_line(i: u64, code: i32, value: i32, out: &mut [u8], at: usize) -> usize
-    requires { ⌜ at + 80 ≤ length (now out) ⌝ }
-    ensures { λ r. ⌜ Put (now (out .entry)) at (line i code value) 80 (now (out .exit)) r ⌝ }
+    requires { ⌜ at + lineRoom ≤ length (now out) ⌝ }
+    ensures { λ r. ⌜ Put (now (out .entry)) at (line i code value) lineRoom (now (out .exit)) r ⌝ }
 {
     let at = put_decimal(i, out, at);
     let at = put(b" ", out, at);
@@ -67,7 +65,7 @@ fn put_line(i: u64, code: i32, value: i32, out: &mut [u8], at: usize) -> usize
 
 // The line of a refusal: how many bytes it has.
 pub fn put_refused(number: u64, place: u64, out: &mut [u8]) -> usize
-    requires { ⌜ 80 ≤ length (now out) ⌝ }
+    requires { ⌜ lineRoom ≤ length (now out) ⌝ }
     ensures { λ r. ⌜ Begins (now (out .exit)) r (refused number place) ⌝ }
 {
     let at = put(b"refused ", out, 0);
@@ -77,15 +75,21 @@ pub fn put_refused(number: u64, place: u64, out: &mut [u8]) -> usize
     put(b"\n", out, at)
 }
 
-// The lines of n events, whose answers stand in the first 2n cells: how many bytes they have.
+// The lines of n events, whose answers stand in the first n pairs of cells: how many bytes they have.
 pub fn put_lines(cells: &[i32], n: usize, out: &mut [u8]) -> usize
-    requires { ⌜ (2 * n ≤ length (now cells)) × (80 * n ≤ length (now out)) ⌝ }
+    requires { ⌜ (answerWidth * n ≤ length (now cells)) × (lineRoom * n ≤ length (now out)) ⌝ }
     ensures { λ r. ⌜ Begins (now (out .exit)) r (lines 0 n (now (cells .entry))) ⌝ }
 {
     let mut at: usize = 0;
     let mut i: usize = 0;
     while i < n {
-        at = put_line(i as u64, cells[2 * i], cells[2 * i + 1], out, at);
+        at = put_line(
+            i as u64,
+            cells[layout::ANSWER * i],
+            cells[layout::ANSWER * i + 1],
+            out,
+            at,
+        );
         i += 1;
     }
     at

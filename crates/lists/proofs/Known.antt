@@ -1,13 +1,14 @@
 -- A tag and a length are an event's exactly where the body has one. Assumes nothing.
 use mathlib.Core.Path.{_≡_, refl, sym, ap, subst, _∙_}
-use mathlib.Core.Bool.{Bool, true, false, not, _&&_, true≢false}
+use mathlib.Core.Bool.{Bool, true, false, not, true≢false}
 use mathlib.Core.List.{List, [], _∷_}
 use mathlib.Core.Option.{Option, none, some}
 use Prim.Native.Nat.{ℕ}
 use native.Mathlib.Omega.{arith}
 use lib.ListN.{length}
 use lib.Dec.{eqb}
-use borrow.Author.Tests.{eqb-true, ne-eqb, not-true, not-false}
+use borrow.Author.Tests.{eqb-true, ne-eqb}
+use Rattle.decide.proofs.Picks.{both}
 use Rattle.event.specs.Event.{Event, Read, refusedAt, onEvent, readAs}
 use Rattle.lists.specs.Listed.{bodyLength, known}
 
@@ -68,12 +69,8 @@ module _ (tag len : ℕ) (s : List ℕ) (l : length s ≡ len) where
   pub read-on : (place : ℕ) (next : Read) → known tag len ≡ true → onEvent place (readAs tag s) next ≡ next
   read-on place next q = an-event (readAs tag s) place next (known-is s tag ∙ rw l q)
 
-both : (a b : Bool) → (a && b) ≡ true → b ≡ true
-both true b q = q
-both false b q = absurd (true≢false (sym q))
-
 length-is : (tag len : ℕ) → known tag len ≡ true → len ≡ bodyLength tag
-length-is tag len q = sym (eqb-true (bodyLength tag) len (both (not (eqb (bodyLength tag) 0)) (eqb (bodyLength tag) len) q))
+length-is tag len q = sym (eqb-true (bodyLength tag) len (both (not (eqb (bodyLength tag) 0)) (eqb (bodyLength tag) len) q .1))
 
 pub length-of : (k tag len : ℕ) → tag ≡ k → known tag len ≡ true → len ≡ bodyLength k
 length-of k tag len e q = length-is tag len q ∙ ap bodyLength e
@@ -85,10 +82,3 @@ last-tag tag len k p q r u = go (eqb tag 0x14) refl
     go : (b : Bool) → eqb tag 0x14 ≡ b → tag ≡ 0x14
     go true e = eqb-true tag 0x14 e
     go false e = absurd (true≢false (sym k ∙ rw (p, q, r, u, e)))
-
--- ---- what a call said, with `!` before it
-pub said-no : {r t : Bool} → r ≡ t → not r ≡ true → t ≡ false
-said-no {r} e q = sym e ∙ not-true r q
-
-pub said-yes : {r t : Bool} → r ≡ t → not r ≡ false → t ≡ true
-said-yes {r} e q = sym e ∙ not-false r q

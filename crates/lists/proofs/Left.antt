@@ -8,9 +8,9 @@ use native.Mathlib.Omega.{arith}
 use lib.ListN.{length, take, drop}
 use Rattle.wire.specs.Wire.{fieldsIn, fieldsOf}
 use Rattle.event.specs.Event.{Event, Entry, Read, entries, refusedAt, before, onEvent, readAs, readFrom, readList}
-use Rattle.reader.specs.declared.Field.the-variants.{Whole, Cut}
-use Rattle.reader.specs.Field.{fieldAt, fieldsFrom}
-use Rattle.reader.proofs.Laws.{placed, at-end}
+use Rattle.wire_reader.specs.declared.Field.the-variants.{Whole, Cut}
+use Rattle.wire_reader.specs.Field.{fieldAt, fieldsFrom}
+use Rattle.wire_reader.proofs.Laws.{placed, at-end}
 use Rattle.lists.specs.Listed.{known}
 use Rattle.lists.proofs.Bytes.{length-body}
 use Rattle.lists.proofs.Known.{isEvent, known-is}

@@ -11,30 +11,29 @@ use lib.ListN.{length, take, drop}
 use borrow.Author.Tests.{eqb-false}
 use denote.Enum.Declared.{tagOf, declared}
 use mathlib.Core.Option.{Option, none, some}
-use Rattle.reader.proofs.Field.{enum}
+use Rattle.wire_reader.proofs.Field.{enum}
 use Rattle.wire.specs.Wire.{Fields, end, cut, whole, fieldsIn, fieldsOf}
 use Rattle.event.specs.Event.{Event, Entry, Read, entries, refusedAt, before, onEvent, alone, readAs, readFrom, readList, readOne}
-use Rattle.reader.specs.declared.Field.{Field}
-use Rattle.reader.specs.declared.Field.the-variants.{Whole, Cut, End}
-use Rattle.reader.specs.Field.{fieldAt, fieldsFrom}
-use Rattle.reader.proofs.Laws.{placed, before-end, at-end, found}
+use Rattle.wire_reader.specs.declared.Field.{Field}
+use Rattle.wire_reader.specs.declared.Field.the-variants.{Whole, Cut, End}
+use Rattle.wire_reader.specs.Field.{fieldAt, fieldsFrom}
+use Rattle.wire_reader.proofs.Laws.{placed, before-end, at-end, found}
 use Rattle.lists.specs.declared.Counted.{Counted}
-use Rattle.lists.specs.declared.Counted.the-variants.{Events, Refused}
-use Rattle.lists.specs.Listed.{countOf, known}
+use Rattle.lists.specs.Listed.{allRead, refusedFrom, countOf, known}
 use Rattle.lists.proofs.Bytes.{length-body}
 use Rattle.lists.proofs.Known.{refused-here, read-on}
 
 -- n events, and those of what is left
 abbrev countFrom : ℕ → Read → Counted
-countFrom n (entries l) = Events (n + length l)
-countFrom n (refusedAt k) = Refused k
+countFrom n (entries l) = allRead (n + length l)
+countFrom n (refusedAt k) = refusedFrom k
 
 count-all : (r : Read) → countOf r ≡ countFrom 0 r
-count-all (entries l) = ap Events (sym (zero-add (length l)))
+count-all (entries l) = ap allRead (sym (zero-add (length l)))
 count-all (refusedAt k) = refl
 
 count-more : (n : ℕ) (e : Entry) (r : Read) → countFrom n (before e r) ≡ countFrom (suc n) r
-count-more n e (entries l) = ap Events (omega arith)
+count-more n e (entries l) = ap allRead (omega arith)
 count-more n e (refusedAt k) = refl
 
 -- the loop's invariant: n whole fields stand before the place at, and the rest is read from there
@@ -65,11 +64,11 @@ module _ (s : List ℕ) (at n : ℕ) (g : Going s at n) where
   turned : countOf (readList s) ≡ countFrom n (readFrom n (fieldsFrom s (turn .more) (fieldAt s at)))
   turned = g .same ∙ ap (λ f. countFrom n (readFrom n f)) (turn .same)
 
-  pub end-turn : length s ≤ at → Events n ≡ countOf (readList s)
+  pub end-turn : length s ≤ at → allRead n ≡ countOf (readList s)
   unfolding readFrom
-  end-turn h = sym (turned ∙ rw (at-end s at h) (ap Events (add-zero n)))
+  end-turn h = sym (turned ∙ rw (at-end s at h) (ap allRead (add-zero n)))
 
-  pub cut-turn : fieldAt s at ≡ Cut → Refused n ≡ countOf (readList s)
+  pub cut-turn : fieldAt s at ≡ Cut → refusedFrom n ≡ countOf (readList s)
   unfolding readFrom
   cut-turn e = sym (turned ∙ rw e)
 
@@ -77,7 +76,7 @@ module _ (s : List ℕ) (at n : ℕ) (g : Going s at n) where
     size : length (take len (drop start s)) ≡ len
     size = let p = placed s at e in length-body s start len (omega arith)
 
-    pub bad-turn : known tag len ≡ false → Refused n ≡ countOf (readList s)
+    pub bad-turn : known tag len ≡ false → refusedFrom n ≡ countOf (readList s)
     unfolding readFrom
     bad-turn k = sym (turned ∙ rw (e, refused-here tag len (take len (drop start s)) size n _ k))
 
@@ -91,7 +90,8 @@ module _ (s : List ℕ) (at n : ℕ) (g : Going s at n) where
           fuel = r .more;
           enough = omega (arith, r .enough);
           passed = omega arith;
-          same = rw (add-one n) (turned ∙ rw (e, read-on tag len (take len (drop start s)) size n _ k) (count-more n (record { tag = tag; body = take len (drop start s) }) (readFrom (suc n) (fieldsIn (r .more) (drop next s)))));
+          same = rw (add-one n) (turned ∙ rw (e, read-on tag len (take len (drop start s)) size n _ k)
+              (count-more n (record { tag = tag; body = take len (drop start s) }) (readFrom (suc n) (fieldsIn (r .more) (drop next s)))));
         }
 
 -- ---- a field that is not whole
@@ -107,7 +107,7 @@ module _ (s : List ℕ) where
   unfolding fieldsOf
   first = found s 0 (length s)
 
-  pub one-none : (f : Field) → f ≡ fieldAt s 0 → (f ≡ Cut) ⊎ (f ≡ End) → Refused 0 ≡ countOf (readOne (fieldsOf s))
+  pub one-none : (f : Field) → f ≡ fieldAt s 0 → (f ≡ Cut) ⊎ (f ≡ End) → refusedFrom 0 ≡ countOf (readOne (fieldsOf s))
   unfolding readOne
   one-none f q (inl e) = rw (first, ← q, e)
   one-none f q (inr e) = rw (first, ← q, e)
@@ -116,7 +116,7 @@ module _ (s : List ℕ) where
     one-size : length (take len (drop start s)) ≡ len
     one-size = let p = placed s 0 e in length-body s start len (omega arith)
 
-    pub one-bad : known tag len ≡ false → Refused 0 ≡ countOf (readOne (fieldsOf s))
+    pub one-bad : known tag len ≡ false → refusedFrom 0 ≡ countOf (readOne (fieldsOf s))
     unfolding readOne
     one-bad k = rw (first, e, refused-here tag len (take len (drop start s)) one-size 0 _ k)
 
@@ -132,15 +132,15 @@ module _ (s : List ℕ) where
     unfolding readOne
     one-more k = rw (first, e, read-on tag len (take len (drop start s)) one-size 0 _ k, rest .1)
 
-    pub one-long : known tag len ≡ true → next < length s → Refused 1 ≡ countOf (readOne (fieldsOf s))
+    pub one-long : known tag len ≡ true → next < length s → refusedFrom 1 ≡ countOf (readOne (fieldsOf s))
     one-long k h = sym (ap countOf (one-more k) ∙ go (fieldAt s next) refl)
       where
-        go : (f : Field) → fieldAt s next ≡ f → countOf (alone (record { tag = tag; body = take len (drop start s) }) (fieldsFrom s (rest .0) f)) ≡ Refused 1
+        go : (f : Field) → fieldAt s next ≡ f → countOf (alone (record { tag = tag; body = take len (drop start s) }) (fieldsFrom s (rest .0) f)) ≡ refusedFrom 1
         go Cut q = refl
         go End q = absurd (before-end s next h q)
         go (Whole a b c d) q = refl
 
-    pub one-alone : known tag len ≡ true → length s ≤ next → Events 1 ≡ countOf (readOne (fieldsOf s))
+    pub one-alone : known tag len ≡ true → length s ≤ next → allRead 1 ≡ countOf (readOne (fieldsOf s))
     one-alone k h = rw (one-more k, at-end s next h)
 
 -- a list that is read as one event is read so as a list

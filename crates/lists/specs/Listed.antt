@@ -1,6 +1,5 @@
 -- What the functions over lists of events promise. Definitions only: nothing is assumed.
 use mathlib.Core.Bool.{Bool, not, cond, _&&_}
-use mathlib.Core.List.{List}
 use mathlib.Core.Option.{Option, none, some}
 use Prim.Native.Nat.{ℕ}
 use lib.ListN.{length}
@@ -9,7 +8,6 @@ use Rattle.event.specs.Event.{Event, fire, deliver, lose, link, signal, Read, e
 use Rattle.lists.specs.declared.Event as coded
 use Rattle.lists.specs.declared.Event.the-variants.{Fire, Deliver, Lose, Link, Signal, Bad}
 use Rattle.lists.specs.declared.Counted.{Counted}
-use Rattle.lists.specs.declared.Counted.the-variants.{Events, Refused}
 
 -- the event that each case of the code's answer stands for, none where it is `Bad`
 abbrev pub asRead : coded.Event → Option Event
@@ -21,9 +19,15 @@ asRead (Signal a s v) = some (signal a s v)
 asRead Bad = none
 
 -- how many events a list has, or the place of its refusal
+abbrev pub allRead : ℕ → Counted
+allRead n = record { number = 0; place = 0; events = n }
+
+abbrev pub refusedFrom : ℕ → Counted
+refusedFrom k = record { number = 12; place = k; events = 0 }
+
 abbrev pub countOf : Read → Counted
-countOf (entries l) = Events (length l)
-countOf (refusedAt k) = Refused k
+countOf (entries l) = allRead (length l)
+countOf (refusedAt k) = refusedFrom k
 
 -- "one body byte for each item but the distance", 4 bytes: how many bytes a body has, 0 for a tag of no event
 abbrev pub bodyLength : ℕ → ℕ

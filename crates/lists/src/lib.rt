@@ -5,7 +5,7 @@ ghost use lib.ListN.{length, take, drop};
 ghost use Rattle.wire.specs.Wire.{fieldsOf};
 ghost use Rattle.program.specs.Tree.{signed};
 ghost use Rattle.event.specs.Event.{readAs, readList, readOne};
-ghost use Rattle.lists.specs.Listed.{asRead, countOf, bodyLength, known};
+ghost use Rattle.lists.specs.Listed.{asRead, allRead, refusedFrom, countOf, bodyLength, known};
 
 pub enum Event {
     Fire(u8),
@@ -16,10 +16,32 @@ pub enum Event {
     Bad,
 }
 
-// How many events a list has, or how many whole fields stand before the one that is refused with 12.
-pub enum Counted {
-    Events(usize),
-    Refused(usize),
+// A list's refusal and its place, 0 and 0 where it has none, and how many events it has, 0 where it is refused.
+pub struct Counted {
+    pub number: u32,
+    pub place: usize,
+    pub events: usize,
+}
+
+fn all_read(events: usize) -> Counted
+    ensures { λ r. ⌜ r ≡ allRead events ⌝ }
+{
+    Counted {
+        number: 0,
+        place: 0,
+        events: events,
+    }
+}
+
+// Refusal 12, with so many whole fields before it.
+fn refused(place: usize) -> Counted
+    ensures { λ r. ⌜ r ≡ refusedFrom place ⌝ }
+{
+    Counted {
+        number: 12,
+        place: place,
+        events: 0,
+    }
 }
 
 // How many bytes the body of an event has, 0 for a tag of no event.
@@ -63,7 +85,7 @@ fn link_at(s: &[u8], start: usize) -> Event
     requires { do ⌜ start + 6 ≤ (← ⟦s.len()⟧) ⌝ }
     ensures { λ r. ⌜ asRead r ≡ readAs 0x13 (take 6 (drop start (now (s .entry)))) ⌝ }
 {
-    let w = reader::be32(s[start + 2], s[start + 3], s[start + 4], s[start + 5]);
+    let w = wire_reader::be32(s[start + 2], s[start + 3], s[start + 4], s[start + 5]);
     Event::Link(s[start], s[start + 1], number_of(w))
 }
 
@@ -91,44 +113,44 @@ pub fn count_events(s: &[u8]) -> Counted
     let mut at: usize = 0;
     let mut n: usize = 0;
     while at < s.len() {
-        let f = reader::read_field(s, at);
-        let reader::Field::Whole {
+        let f = wire_reader::read_field(s, at);
+        let wire_reader::Field::Whole {
             tag,
             start,
             len,
             next,
         } = f
         else {
-            return Counted::Refused(n); // cut short
+            return refused(n); // cut short
         };
         if !is_event(tag, len) {
-            return Counted::Refused(n);
+            return refused(n);
         }
         at = next;
         n += 1;
     }
-    Counted::Events(n)
+    all_read(n)
 }
 
 // A list of exactly one event.
 pub fn one_event(s: &[u8]) -> Counted
     ensures { λ r. ⌜ r ≡ countOf (readOne (fieldsOf (now (s .entry)))) ⌝ }
 {
-    let f = reader::read_field(s, 0);
-    let reader::Field::Whole {
+    let f = wire_reader::read_field(s, 0);
+    let wire_reader::Field::Whole {
         tag,
         start,
         len,
         next,
     } = f
     else {
-        return Counted::Refused(0); // no field, or cut short
+        return refused(0); // no field, or cut short
     };
     if !is_event(tag, len) {
-        return Counted::Refused(0);
+        return refused(0);
     }
     if next < s.len() {
-        return Counted::Refused(1);
+        return refused(1);
     }
-    Counted::Events(1)
+    all_read(1)
 }

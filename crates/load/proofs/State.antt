@@ -1,4 +1,4 @@
--- What holds of the table from field to field: it is good, and its marks say what the table that it stands for names.
+-- What holds of the table from field to field: it is good, and its flags say what the table that it stands for names.
 use mathlib.Core.Path.{_≡_, refl, sym, _∙_, ap}
 use mathlib.Core.Logic.{_⊎_, inl, inr}
 use mathlib.Core.Bool.{Bool, true, false, cond, _||_, or-assoc}
@@ -9,74 +9,72 @@ use lib.ListN.{length, getD, drop, set, replicate, length-set, length-drop, leng
 use lib.Seq.{getD-set-same, getD-set-other}
 use lib.Dec.{eqb, leb}
 use borrow.Author.Tests.{eqb-true, eqb-false, eq-eqb, leb-false}
+use Rattle.shapes.specs.Kinds.{callKind}
 use Rattle.program.specs.Table as program
-use Rattle.program.specs.Table.{Item, child, slot, keeps, among, beyond, numbers, allNumbers, bodies, valuesIn, definitionAt, withNode, withDefinition}
+use Rattle.program.specs.Table.{Item, child, slot, keeps, among, beyond, numbers, allNumbers, bodies, valuesIn, definitionAt, withNode, withDefinition, nodeLimit}
 use Rattle.program.proofs.Items.{same-items}
 use Rattle.program.proofs.Tests.{either, second}
 use Rattle.nodes.specs.declared.Node.{Node}
-use Rattle.marks.specs.Agrees.{Agree}
-use Rattle.shapes.specs.Shapes.{leadOf, widthOf, kidsOf}
+use Rattle.taken.specs.Agrees.{Agree}
+use Rattle.shapes.specs.Shapes.{leadOf, widthOf, kidsOf, byteValues, keptItem, slotItem, definitionItem}
 use Rattle.nodes.specs.Body.{noNode, itemOf, constantOf, made, nodeIn}
-use Rattle.marks.specs.Marked.{marked, markIf}
+use Rattle.taken.specs.Taken.{withTaken, takeIf}
 use Rattle.nodes.specs.Ranges.{Ranges}
-use Rattle.nodes.specs.Values.{childrenOf, nodeOf}
+use Rattle.nodes.specs.Values.{childrenOf}
 use Rattle.nodes.proofs.Items.{same-kids, few-kids, in-ranges}
-use Rattle.nodes.proofs.Body.{children-made, node-made, node-children, node-slots, node-keeps}
-use Rattle.marks.proofs.Marks.{same, among-append, set-agrees, if-agrees, marked-agrees}
-use Rattle.kinds.specs.Marks.{Marks, withRoot}
-use Rattle.kinds.specs.Marks.{withNode as marksWith}
-use Rattle.rows.specs.Shows.{Shows}
+use Rattle.nodes.proofs.Body.{children-made, node-made, node-children, node-slots, node-kept}
+use Rattle.program.proofs.Names.{among-append}
+use Rattle.taken.proofs.Agree.{same, set-agrees, if-agrees, with-agrees}
+use Rattle.kinds.specs.Taken.{Taken, withRoot}
+use Rattle.kinds.specs.Taken.{withNode as takenAfter}
+use Rattle.refusal_rows.specs.Shows.{Shows}
 use Rattle.kinds.proofs.Clear.{NodeClear}
-use Rattle.rows.proofs.Clear.{DefinitionClear}
+use Rattle.refusal_rows.proofs.Clear.{DefinitionClear}
 use Rattle.load.specs.declared.Table.{Table}
 use Rattle.load.specs.Loads.{paired, tableOf, nodeAt, GoodNode, Good}
-use Rattle.load.specs.Steps.{emptyTable, noMarks, put, addKind, define}
+use Rattle.load.specs.Steps.{emptyTable, noneTaken, put, addKind, define}
 use Rattle.load.proofs.Shown.{shown-nodes, shown-put, shown-definitions, shown-definition, shown-define, among-numbers, among-bodies}
 
-pub record State (t : Table) (m : Marks) : Type 0 where
+pub record State (t : Table) (m : Taken) : Type 0 where
   pub good : Good t
-  pub named : Agree (m .named) (program.named (tableOf t))
-  pub slots : Agree (m .slots) (allNumbers slot (tableOf t .nodes))
-  pub kept : Agree (m .kept) (allNumbers keeps (tableOf t .nodes))
+  pub named : Agree nodeLimit (m .named) (program.named (tableOf t))
+  pub slots : Agree byteValues (m .slots) (allNumbers slot (tableOf t .nodes))
+  pub kept : Agree byteValues (m .kept) (allNumbers keeps (tableOf t .nodes))
 
-pub shows-of : (t : Table) (m : Marks) → State t m → Shows (t .n) (t .defs) (t .counts) m (tableOf t)
+pub shows-of : (t : Table) (m : Taken) → State t m → Shows (t .n) (t .defs) (t .counts) m (tableOf t)
 shows-of t m st =
-    let a = st .good .n in
-    let b = st .good .defs in
-    let c : t .defs ≤ length (t .counts) = omega (arith, st .good .longCounts) in
-    let d : t .defs ≤ length (t .bodies) = omega (arith, st .good .longBodies) in
     record {
-      nodes = shown-nodes t (omega (arith, st .good .longNodes));
-      few = a;
-      definitions = shown-definitions t c d;
-      parameters = λ i h. sym (ap (λ (x : program.Definition). x .count) (shown-definition t c d i program.noDefinition h));
+      nodes = shown-nodes t (st .good);
+      few = st .good .n;
+      definitions = shown-definitions t (st .good);
+      parameters = λ i h. sym (ap (λ (x : program.Definition). x .count) (shown-definition t (st .good) i program.noDefinition h));
       named = st .named;
       slots = st .slots;
       kept = st .kept;
     }
 
 -- the table before any field
-none-marked : Agree (replicate 256 false) []
+nothing-taken : (bound : ℕ) → Agree bound (replicate bound false) []
 unfolding among
-none-marked = record { long = length-replicate 256 false; each = λ k h. getD-replicate 256 k false false h }
+nothing-taken bound = record { long = length-replicate bound false; each = λ k h. getD-replicate bound k false false h }
 
-pub beginning : State emptyTable noMarks
+pub beginning : State emptyTable noneTaken
 unfolding tableOf paired allNumbers bodies
 beginning =
     record {
       good = record {
-        longNodes = length-replicate 256 noNode;
-        longCounts = length-replicate {A = ℕ} 256 0;
-        longBodies = length-replicate {A = ℕ} 256 0;
+        longNodes = length-replicate nodeLimit noNode;
+        longCounts = length-replicate {A = ℕ} byteValues 0;
+        longBodies = length-replicate {A = ℕ} byteValues 0;
         n = omega arith;
         defs = omega arith;
         nodes = λ i h. absurd (omega arith);
         counts = λ d h. absurd (omega arith);
         bodies = λ d h. absurd (omega arith);
       };
-      named = none-marked;
-      slots = none-marked;
-      kept = none-marked;
+      named = nothing-taken nodeLimit;
+      slots = nothing-taken byteValues;
+      kept = nothing-taken byteValues;
     }
 
 pub empty-shown : tableOf emptyTable ≡ record { nodes = []; definitions = [] }
@@ -98,11 +96,11 @@ first-four ks (suc (suc (suc zero))) h = refl
 first-four ks (suc (suc (suc (suc j)))) h = absurd (omega arith)
 
 -- a call's item is its definition
-call-item : (kind : ℕ) (s : List ℕ) → kind ≡ 12 → itemOf (leadOf kind) s ≡ getD s 0 0
+call-item : (kind : ℕ) (s : List ℕ) → kind ≡ callKind → itemOf (leadOf kind) s ≡ getD s 0 0
 unfolding itemOf
 call-item kind s e = rw e
 
-module _ (t : Table) (m : Marks) (st : State t m) (kind : ℕ) (s : List ℕ) (cl : NodeClear kind s (t .n) (t .defs) (getD (t .counts) (getD s 0 0) 0) m) where
+module _ (t : Table) (m : Taken) (st : State t m) (kind : ℕ) (s : List ℕ) (cl : NodeClear kind s (t .n) (t .defs) (getD (t .counts) (getD s 0 0) 0) m) where
   abbrev l : ℕ
   l = leadOf kind
 
@@ -122,7 +120,7 @@ module _ (t : Table) (m : Marks) (st : State t m) (kind : ℕ) (s : List ℕ) (c
   abbrev y : program.Node
   y = program.nodeOf (tableOf t) kind s
 
-  same-count : kind ≡ 12 → count ≡ count′
+  same-count : kind ≡ callKind → count ≡ count′
   same-count q = shows-of t m st .parameters (getD s 0 0) (cl .defined q)
 
   few : kidsOf kind count ≤ 4
@@ -135,8 +133,7 @@ module _ (t : Table) (m : Marks) (st : State t m) (kind : ℕ) (s : List ℕ) (c
   pub put-shown : tableOf (addKind t kind s) ≡ withNode (tableOf t) y
   unfolding nodeIn
   put-shown =
-      let room = cl .room in
-      shown-put t x (omega (arith, st .good .longNodes))
+      shown-put t (st .good) x (cl .room)
       ∙ ap (withNode (tableOf t))
       (node-made kind count s (cl .known) (cl .right) few
       ∙ ap (λ (is : List Item). record { kind = kind; values = valuesIn is s }) (same-items kind count count′ (cl .known) same-count))
@@ -145,11 +142,11 @@ module _ (t : Table) (m : Marks) (st : State t m) (kind : ℕ) (s : List ℕ) (c
   unfolding nodeIn
   children = children-made kind count s (cl .known) (cl .right) few
 
-  bound : t .n ≤ 256
+  bound : t .n ≤ nodeLimit
   bound = st .good .n
 
-  put-named : Agree (marked (m .named) ks) (program.named (withNode (tableOf t) y))
-  put-named = same (program.named (withNode (tableOf t) y)) (marked-agrees (t .n) ks bound (cl .given) (st .named)) of
+  put-named : Agree nodeLimit (withTaken (m .named) ks) (program.named (withNode (tableOf t) y))
+  put-named = same (program.named (withNode (tableOf t) y)) (with-agrees (t .n) ks bound (cl .given) (st .named)) of
     where
       of : (k : ℕ) → among k (ks ++ program.named (tableOf t)) ≡ among k (program.named (withNode (tableOf t) y))
       of k =
@@ -161,8 +158,8 @@ module _ (t : Table) (m : Marks) (st : State t m) (kind : ℕ) (s : List ℕ) (c
           (among-numbers k child (tableOf t .nodes) y
           ∙ ap (λ (ns : List ℕ). among k ns || among k (allNumbers child (tableOf t .nodes))) (node-children kind count′ s (cl .known) right′)))
 
-  put-item : {ms : List Bool} (j : Item) (c : ℕ) → (l ≡ c → itemOf l s < 256) → numbers j y ≡ cond (eqb l c) (itemOf l s ∷ []) []
-      → Agree ms (allNumbers j (tableOf t .nodes)) → Agree (markIf (eqb l c) (itemOf l s) ms) (allNumbers j (tableOf t .nodes ++ y ∷ []))
+  put-item : {ms : List Bool} (j : Item) (c : ℕ) → (l ≡ c → itemOf l s < byteValues) → numbers j y ≡ cond (eqb l c) (itemOf l s ∷ []) []
+      → Agree byteValues ms (allNumbers j (tableOf t .nodes)) → Agree byteValues (takeIf (eqb l c) (itemOf l s) ms) (allNumbers j (tableOf t .nodes ++ y ∷ []))
   put-item {ms} j c h e a =
       same (allNumbers j (tableOf t .nodes ++ y ∷ [])) (if-agrees (eqb l c) (itemOf l s) (λ q. h (eqb-true l c q)) a)
       (λ k. among-append k (cond (eqb l c) (itemOf l s ∷ []) []) (allNumbers j (tableOf t .nodes))
@@ -172,9 +169,9 @@ module _ (t : Table) (m : Marks) (st : State t m) (kind : ℕ) (s : List ℕ) (c
   range : Ranges l (itemOf l s) (constantOf l s)
   range = in-ranges l (itemOf l s) (constantOf l s) (cl .range)
 
-  low : (l ≡ 5) ⊎ (l ≡ 4) → itemOf l s < 256
+  low : (l ≡ slotItem) ⊎ (l ≡ keptItem) → itemOf l s < byteValues
   low (inl q) = let h = range .slot q in omega arith
-  low (inr q) = let h = range .keeps q in omega arith
+  low (inr q) = let h = range .kept q in omega arith
 
   new-node : GoodNode (addKind t kind s) (t .n) x
   unfolding put nodeIn made
@@ -186,7 +183,7 @@ module _ (t : Table) (m : Marks) (st : State t m) (kind : ℕ) (s : List ℕ) (c
         range = range;
         children = λ j h. rw (first-four ks j (let f = few in omega arith))
             (below-at (t .n) ks j (cl .given) (let r = cl .right in omega (arith, length-drop (widthOf kind) s)));
-        definition = λ q. let d : itemOf l s < t .defs = leb-false (t .defs) (itemOf l s) (second (eqb l 7) _ (cl .definition) (eq-eqb l 7 q)) in
+        definition = λ q. let d : itemOf l s < t .defs = leb-false (t .defs) (itemOf l s) (second (eqb l definitionItem) _ (cl .definition) (eq-eqb l definitionItem q)) in
             (d, st .good .bodies (itemOf l s) d);
       }
 
@@ -205,7 +202,7 @@ module _ (t : Table) (m : Marks) (st : State t m) (kind : ℕ) (s : List ℕ) (c
           rw (getD-set-other (t .nodes) (t .n) i x noNode d)
           (record { kind = g .kind; kids = g .kids; few = g .few; range = g .range; children = g .children; definition = g .definition })
 
-  pub put-state : State (addKind t kind s) (marksWith x m)
+  pub put-state : State (addKind t kind s) (takenAfter x m)
   unfolding put nodeIn made
   put-state =
       let room = cl .room in
@@ -221,31 +218,22 @@ module _ (t : Table) (m : Marks) (st : State t m) (kind : ℕ) (s : List ℕ) (c
           bodies = λ d h. let b = st .good .bodies d h in omega arith;
         };
         named = rw (put-shown, children) put-named;
-        slots = rw put-shown (put-item slot 5 (λ q. low (inl q)) (node-slots kind count′ s (cl .known) right′) (st .slots));
-        kept = rw put-shown (put-item keeps 4 (λ q. low (inr q)) (node-keeps kind count′ s (cl .known) right′) (st .kept));
+        slots = rw put-shown (put-item slot slotItem (λ q. low (inl q)) (node-slots kind count′ s (cl .known) right′) (st .slots));
+        kept = rw put-shown (put-item keeps keptItem (λ q. low (inr q)) (node-kept kind count′ s (cl .known) right′) (st .kept));
       }
 
 -- one definition more
-module _ (t : Table) (m : Marks) (st : State t m) (b : List ℕ) (cl : DefinitionClear b (t .n) (t .defs)) where
+module _ (t : Table) (m : Taken) (st : State t m) (b : List ℕ) (cl : DefinitionClear b (t .n) (t .defs)) where
   abbrev c : ℕ
   c = getD b 0 0
 
   abbrev body : ℕ
   body = getD b 1 0
 
-  room : t .defs < 256
-  room = let r = cl .room in omega arith
-
-  inCounts : t .defs < length (t .counts)
-  inCounts = omega (arith, st .good .longCounts, room)
-
-  inBodies : t .defs < length (t .bodies)
-  inBodies = omega (arith, st .good .longBodies, room)
-
   pub define-shown : tableOf (define t b) ≡ withDefinition (tableOf t) b
-  define-shown = shown-define t b inCounts inBodies
+  define-shown = shown-define t (st .good) b (cl .room)
 
-  define-named : Agree (set (m .named) body true) (program.named (withDefinition (tableOf t) b))
+  define-named : Agree nodeLimit (set (m .named) body true) (program.named (withDefinition (tableOf t) b))
   unfolding among
   define-named =
       let given = cl .given in
@@ -290,9 +278,9 @@ module _ (t : Table) (m : Marks) (st : State t m) (b : List ℕ) (cl : Definitio
             (omega arith, rw (getD-set-other (t .bodies) (t .defs) (x .item) body 0 (λ e. omega arith)) (g .definition q .1));
       }
     where
-      call : x .kind ≡ 12 → getD (t .counts) (x .item) 0 ≡ getD (set (t .counts) (t .defs) c) (x .item) 0
+      call : x .kind ≡ callKind → getD (t .counts) (x .item) 0 ≡ getD (set (t .counts) (t .defs) c) (x .item) 0
       call q =
-          let l : leadOf (x .kind) ≡ 7 = ap leadOf q in
+          let l : leadOf (x .kind) ≡ definitionItem = ap leadOf q in
           let d = g .definition l .0 in
           sym (getD-set-other (t .counts) (t .defs) (x .item) c 0 (λ e. omega arith))
 
@@ -308,8 +296,8 @@ module _ (t : Table) (m : Marks) (st : State t m) (b : List ℕ) (cl : Definitio
           n = st .good .n;
           defs = omega arith;
           nodes = λ i h. old-node i (nodeAt t i) (st .good .nodes i h);
-          counts = each (λ d v. v ≤ 4) (t .counts) c inCounts (cl .count) (st .good .counts);
-          bodies = each (λ d v. v < t .n) (t .bodies) body inBodies (cl .given) (st .good .bodies);
+          counts = each (λ d v. v ≤ 4) (t .counts) c (omega (arith, st .good .longCounts)) (cl .count) (st .good .counts);
+          bodies = each (λ d v. v < t .n) (t .bodies) body (omega (arith, st .good .longBodies)) (cl .given) (st .good .bodies);
         };
         named = rw define-shown define-named;
         slots = rw define-shown (st .slots);

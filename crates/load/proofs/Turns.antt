@@ -12,28 +12,29 @@ use borrow.Author.Tests.{eqb-true, eqb-false, eq-eqb, ne-eqb}
 use Rattle.wire.specs.Wire as wire
 use Rattle.wire.specs.Wire.{Fields, cut, fieldsIn, fieldsOf}
 use Rattle.program.specs.Table as program
-use Rattle.program.specs.Table.{Rows, firstOf, Entry, aNode, aDefinition, aMain, unknown, entryOf, onEntry, unless, refused, Loaded, loadFrom, definitionRows, nodeRows, mainRows, ended, isEnd, unnamed}
-use Rattle.reader.specs.declared.Field.{Field}
-use Rattle.reader.specs.declared.Field.the-variants.{Whole, Cut, End}
-use Rattle.reader.specs.Field.{fieldAt, fieldsFrom}
-use Rattle.reader.proofs.Field.{enum}
-use Rattle.reader.proofs.Laws.{placed, before-end, at-end, found}
+use Rattle.program.specs.Table.{Rows, firstOf, Entry, aNode, aDefinition, aMain, unknown, entryOf, onEntry, unless, refused, Loaded, loadFrom, definitionRows, nodeRows}
+use Rattle.program.specs.Table.{mainRows, ended, isEnd, unnamed, nodeLimit, definitionLimit}
+use Rattle.wire_reader.specs.declared.Field.{Field}
+use Rattle.wire_reader.specs.declared.Field.the-variants.{Whole, Cut, End}
+use Rattle.wire_reader.specs.Field.{fieldAt, fieldsFrom}
+use Rattle.wire_reader.proofs.Field.{enum}
+use Rattle.wire_reader.proofs.Laws.{placed, before-end, at-end, found}
 use Rattle.nodes.specs.declared.Node.{Node}
-use Rattle.marks.specs.Marked.{unmarked}
-use Rattle.marks.proofs.Marks.{set-agrees, unmarked-is}
+use Rattle.taken.specs.Taken.{untaken}
+use Rattle.taken.proofs.Agree.{set-agrees, untaken-is}
 use Rattle.kinds.specs.declared.Read.{Read}
-use Rattle.kinds.specs.Marks.{Marks, marksOf, withNode, withRoot}
+use Rattle.kinds.specs.Taken.{Taken, takenOf, withNode, withRoot}
 use Rattle.kinds.specs.Numbers.{nodeNumber}
 use Rattle.kinds.specs.Reads.{nodeFrom, ReadsNode}
 use Rattle.kinds.proofs.Clear.{node-clear}
-use Rattle.rows.specs.Numbers.{fieldNumber, definitionNumber, mainNumber}
-use Rattle.rows.specs.Roots.{TakesRoot}
-use Rattle.rows.specs.Shows.{Shows}
-use Rattle.rows.proofs.Clear.{definition-clear, main-clear}
-use Rattle.rows.proofs.Rows.{entryNumber, entry-is, field-rows, definition-rows, node-rows, main-rows}
+use Rattle.refusal_rows.specs.Numbers.{fieldNumber, definitionNumber, mainNumber}
+use Rattle.refusal_rows.specs.Roots.{TakesRoot}
+use Rattle.refusal_rows.specs.Shows.{Shows}
+use Rattle.refusal_rows.proofs.Clear.{definition-clear, main-clear}
+use Rattle.refusal_rows.proofs.Rows.{entryNumber, entry-is, field-rows, definition-rows, node-rows, main-rows}
 use Rattle.load.specs.declared.Table.{Table}
 use Rattle.load.specs.Loads.{tableOf, Good, Loads}
-use Rattle.load.specs.Steps.{tableIn, emptyTable, noMarks, refusal, numberIn, put, addNode, define, endNumber, withMain}
+use Rattle.load.specs.Steps.{tableIn, emptyTable, noneTaken, refusal, numberIn, put, addNode, define, endNumber, withMain}
 use Rattle.load.proofs.State.{State, shows-of, beginning, empty-shown, put-shown, put-state, define-shown, define-state}
 
 -- rows of which none holds, and rows of which one does
@@ -50,13 +51,13 @@ stopped t (aDefinition s) place e rest go q h = one-holds (definitionRows t s) p
 stopped t (aMain s) place e rest go q h = one-holds (mainRows t s) place e _ q h
 stopped t unknown place e rest go q h = ap (λ (n : ℕ). refused n place) (sym q)
 
--- a field that is taken: one node or definition more
-record Taken (t : Table) (en : Entry) (u : Table) (m : Marks) : Type 0 where
+-- a field that is not refused: one node or definition more
+record Grown (t : Table) (en : Entry) (u : Table) (m : Taken) : Type 0 where
   pub shown : (place : ℕ) (rest : Fields) (go : program.Table → Loaded) → onEntry place (tableOf t) en rest go ≡ go (tableOf u)
   pub more : u .n + u .defs ≡ suc (t .n + t .defs)
   pub state : State u m
 
-module _ (t : Table) (m : Marks) (tag : ℕ) (b : List ℕ) where
+module _ (t : Table) (m : Taken) (tag : ℕ) (b : List ℕ) where
   abbrev n-of : ℕ
   n-of = nodeNumber (getD b 0 0) (drop 1 b) (t .n) (t .defs) (getD (t .counts) (getD (drop 1 b) 0 0) 0) m
 
@@ -94,13 +95,13 @@ module _ (t : Table) (m : Marks) (tag : ℕ) (b : List ℕ) where
   main-entry : tag ≡ 3 → entryOf tag b ≡ aMain b
   main-entry q = entry-is tag b ∙ rw q
 
-module _ (t : Table) (m : Marks) (st : State t m) (tag : ℕ) (b : List ℕ) (e : numberIn t m tag b ≡ 0) where
+module _ (t : Table) (m : Taken) (st : State t m) (tag : ℕ) (b : List ℕ) (e : numberIn t m tag b ≡ 0) where
   shows : Shows (t .n) (t .defs) (t .counts) m (tableOf t)
   shows = shows-of t m st
 
-  node-taken : tag ≡ 1 → Taken t (entryOf tag b) (addNode t b) (withNode (nodeFrom (t .counts) b) m)
+  node-grown : tag ≡ 1 → Grown t (entryOf tag b) (addNode t b) (withNode (nodeFrom (t .counts) b) m)
   unfolding addNode put
-  node-taken q =
+  node-grown q =
       let k = node-number t m tag b e q in
       let cl = node-clear (getD b 0 0) (drop 1 b) (t .n) (t .defs) _ m (k .1) in
       let z = sym (node-rows (t .n) (t .defs) (t .counts) m (tableOf t) shows (getD b 0 0) (drop 1 b)) ∙ k .1 in
@@ -112,9 +113,9 @@ module _ (t : Table) (m : Marks) (st : State t m) (tag : ℕ) (b : List ℕ) (e 
         state = put-state t m st (getD b 0 0) (drop 1 b) cl;
       }
 
-  definition-taken : (tag ≡ 1 → ⊥) → (tag ≡ 3 → ⊥) → Taken t (entryOf tag b) (define t b) (withRoot (getD b 1 0) m)
+  definition-grown : (tag ≡ 1 → ⊥) → (tag ≡ 3 → ⊥) → Grown t (entryOf tag b) (define t b) (withRoot (getD b 1 0) m)
   unfolding define
-  definition-taken p d =
+  definition-grown p d =
       let k = definition-number t m tag b e p d in
       let cl = definition-clear b (t .n) (t .defs) (m .named) (k .1) in
       let z = sym (definition-rows (t .n) (t .defs) (t .counts) m (tableOf t) shows b) ∙ k .1 in
@@ -146,13 +147,13 @@ is-end (suc k) (tag ∷ high ∷ low ∷ s) h = go (leb _ (length s)) _ ∙ sym 
     go false f = refl
 
 -- the rows at the table's end are those of the code
-end-rows : (t : Table) (m : Marks) → State t m → (main left : ℕ) (rest : Fields) → main < t .n → isEnd rest ≡ eqb left 0
+end-rows : (t : Table) (m : Taken) → State t m → (main left : ℕ) (rest : Fields) → main < t .n → isEnd rest ≡ eqb left 0
     → endNumber left (t .n) (set (m .named) main true) ≡ firstOf ((not (isEnd rest), 6) ∷ (unnamed (length (tableOf t .nodes)) (main ∷ program.named (tableOf t)), 6) ∷ [])
 unfolding endNumber firstOf
 end-rows t m st main left rest h e =
     let few = st .good .n in
-    let u : unmarked (t .n) (set (m .named) main true) ≡ unnamed (t .n) (main ∷ program.named (tableOf t)) =
-    unmarked-is (t .n) few (set-agrees main (omega arith) (st .named)) in
+    let u : untaken (t .n) (set (m .named) main true) ≡ unnamed (t .n) (main ∷ program.named (tableOf t)) =
+    untaken-is (t .n) few (set-agrees main (omega arith) (st .named)) in
     rw (← shows-of t m st .nodes, e, u) (go (eqb left 0) (unnamed (t .n) (main ∷ program.named (tableOf t))))
   where
     go : (a b : Bool) → cond {A = ℕ} a (cond b 6 0) 6 ≡ cond (not a) 6 (cond b 6 0)
@@ -160,13 +161,13 @@ end-rows t m st main left rest h e =
     go false b = refl
 
 -- The loop at a field: there is fuel enough for what is left, and what is left gives the whole's result
-pub record Going (s : List ℕ) (t : Table) (m : Marks) (at : ℕ) : Type 0 where
+pub record Going (s : List ℕ) (t : Table) (m : Taken) (at : ℕ) : Type 0 where
   pub fuel : ℕ
   pub enough : length s - at < fuel
   pub state : State t m
   pub same : program.load s ≡ loadFrom (t .n + t .defs) (tableOf t) (fieldsIn fuel (drop at s))
 
-pub begin : (s : List ℕ) → Going s emptyTable noMarks 0
+pub begin : (s : List ℕ) → Going s emptyTable noneTaken 0
 unfolding program.load fieldsOf
 begin s =
     record {
@@ -227,7 +228,7 @@ ended-loads s t main num q m good = go (eqb num 0) refl q
     go false p q = is-refused s num 0 (withMain t main) q (eqb-false num 0 p)
 
 -- the same under another name
-going-as : {s : List ℕ} {t u : Table} {m k : Marks} {at : ℕ} → u ≡ t → k ≡ m → Going s t m at → Going s u k at
+going-as : {s : List ℕ} {t u : Table} {m k : Taken} {at : ℕ} → u ≡ t → k ≡ m → Going s t m at → Going s u k at
 going-as e f g = rw (e, f) g
 
 loads-as : {s : List ℕ} {e f : ℕ} {t u : Table} → f ≡ e → u ≡ t → Loads s (record { number = e; place = 0; table = t })
@@ -245,7 +246,7 @@ module _ (t : Table) (b : List ℕ) where
   unfolding addNode put
   node-is x e = rw e
 
-module _ (s : List ℕ) (t : Table) (m : Marks) (at : ℕ) (g : Going s t m at) where
+module _ (s : List ℕ) (t : Table) (m : Taken) (at : ℕ) (g : Going s t m at) where
   abbrev fields : ℕ
   fields = t .n + t .defs
 
@@ -293,7 +294,7 @@ module _ (s : List ℕ) (t : Table) (m : Marks) (at : ℕ) (g : Going s t m at) 
         h
 
     -- that is taken
-    next-turn : (u : Table) (m′ : Marks) → Taken t (entryOf tag b) u m′ → Going s u m′ next
+    next-turn : (u : Table) (m′ : Taken) → Grown t (entryOf tag b) u m′ → Going s u m′ next
     next-turn u m′ k =
         let pl = placed s at w in
         let en = r .enough in
@@ -318,7 +319,7 @@ module _ (s : List ℕ) (t : Table) (m : Marks) (at : ℕ) (g : Going s t m at) 
         ended-loads s t main (endNumber left (t .n) (set (m .named) main true)) (rw num l) a (g .state .good)
 
     -- ---- what the code read there: a node
-    module _ {x : Read} {m′ : Marks} (one : tag ≡ 1) (h : ReadsNode b (t .n) (t .defs) (t .counts) m x m′) where
+    module _ {x : Read} {m′ : Taken} (one : tag ≡ 1) (h : ReadsNode b (t .n) (t .defs) (t .counts) m x m′) where
       node-is-number : x .number ≡ numberIn t m tag b
       unfolding fieldNumber
       node-is-number = h .number ∙ ap (λ (i : ℕ). numberIn t m i b) (sym one)
@@ -330,11 +331,11 @@ module _ (s : List ℕ) (t : Table) (m : Marks) (at : ℕ) (g : Going s t m at) 
         node-ok : numberIn t m tag b ≡ 0
         node-ok = sym node-is-number ∙ z
 
-        pub nodes-room : t .n < 256
+        pub nodes-room : t .n < nodeLimit
         nodes-room = node-clear (getD b 0 0) (drop 1 b) (t .n) (t .defs) _ m (node-number t m tag b node-ok one .1) .room
 
         pub node-turn : Going s (tableIn (set (t .nodes) (t .n) (x .node)) (t .counts) (t .bodies) (t .n + 1) (t .defs) (t .main)) m′ next
-        node-turn = going-as (node-is t b (x .node) (h .node z)) (h .marks z) (next-turn _ _ (node-taken t m (g .state) tag b node-ok one))
+        node-turn = going-as (node-is t b (x .node) (h .node z)) (h .after z) (next-turn _ _ (node-grown t m (g .state) tag b node-ok one))
 
     -- a definition, the main node, or neither
     module _ {e : ℕ} {named′ : List Bool} (d : tag ≡ 1 → ⊥) (h : TakesRoot tag b (t .n) (t .defs) (m .named) e named′) where
@@ -354,12 +355,12 @@ module _ (s : List ℕ) (t : Table) (m : Marks) (at : ℕ) (g : Going s t m at) 
             loads-as (ap (endNumber (length s - next) (t .n)) (h .main z q)) (ap (withMain t) f) (main-turn root-ok q (getD b 0 0) _ refl refl)
 
         module _ (three : tag ≡ 3 → ⊥) where
-          pub defs-room : t .defs < 32
+          pub defs-room : t .defs < definitionLimit
           defs-room = definition-clear b (t .n) (t .defs) (m .named) (definition-number t m tag b root-ok d three .1) .room
 
           pub define-turn : {first second : ℕ} → first ≡ getD b 0 0 → second ≡ getD b 1 0
-              → Going s (tableIn (t .nodes) (set (t .counts) (t .defs) first) (set (t .bodies) (t .defs) second) (t .n) (t .defs + 1) (t .main)) (marksOf named′ (m .slots) (m .kept)) next
+              → Going s (tableIn (t .nodes) (set (t .counts) (t .defs) first) (set (t .bodies) (t .defs) second) (t .n) (t .defs + 1) (t .main)) (takenOf named′ (m .slots) (m .kept)) next
           define-turn {first} {second} f q =
               going-as (define-is t b first second f q)
-              (ap (λ (l : List Bool). marksOf l (m .slots) (m .kept)) (h .definition z (definition-number t m tag b root-ok d three .0)))
-              (next-turn _ _ (definition-taken t m (g .state) tag b root-ok d three))
+              (ap (λ (l : List Bool). takenOf l (m .slots) (m .kept)) (h .definition z (definition-number t m tag b root-ok d three .0)))
+              (next-turn _ _ (definition-grown t m (g .state) tag b root-ok d three))

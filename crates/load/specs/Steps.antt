@@ -4,11 +4,13 @@ use mathlib.Core.List.{List}
 use Prim.Native.Nat.{ℕ, _+_}
 use lib.ListN.{getD, drop, set, replicate}
 use lib.Dec.{eqb}
+use Rattle.program.specs.Table.{nodeLimit}
+use Rattle.shapes.specs.Shapes.{byteValues}
 use Rattle.nodes.specs.declared.Node.{Node}
 use Rattle.nodes.specs.Body.{noNode, nodeIn}
-use Rattle.marks.specs.Marked.{unmarked}
-use Rattle.kinds.specs.Marks.{Marks, marksOf}
-use Rattle.rows.specs.Numbers.{fieldNumber}
+use Rattle.taken.specs.Taken.{untaken}
+use Rattle.kinds.specs.Taken.{Taken, takenOf}
+use Rattle.refusal_rows.specs.Numbers.{fieldNumber}
 use Rattle.load.specs.declared.Table.{Table}
 use Rattle.load.specs.declared.Outcome.{Outcome}
 
@@ -16,15 +18,15 @@ abbrev pub tableIn : List Node → List ℕ → List ℕ → ℕ → ℕ → ℕ
 tableIn nodes counts bodies n defs main = record { nodes = nodes; counts = counts; bodies = bodies; n = n; defs = defs; main = main }
 
 abbrev pub emptyTable : Table
-emptyTable = tableIn (replicate 256 noNode) (replicate 256 0) (replicate 256 0) 0 0 0
+emptyTable = tableIn (replicate nodeLimit noNode) (replicate byteValues 0) (replicate byteValues 0) 0 0 0
 
-abbrev pub noMarks : Marks
-noMarks = marksOf (replicate 256 false) (replicate 256 false) (replicate 256 false)
+abbrev pub noneTaken : Taken
+noneTaken = takenOf (replicate nodeLimit false) (replicate byteValues false) (replicate byteValues false)
 
 abbrev pub refusal : ℕ → ℕ → Outcome
 refusal number place = record { number = number; place = place; table = emptyTable }
 
-abbrev pub numberIn : Table → Marks → ℕ → List ℕ → ℕ
+abbrev pub numberIn : Table → Taken → ℕ → List ℕ → ℕ
 numberIn t m tag b = fieldNumber tag b (t .n) (t .defs) (t .counts) m
 
 unfoldable pub put : Table → Node → Table
@@ -40,9 +42,9 @@ addNode t b = addKind t (getD b 0 0) (drop 1 b)
 unfoldable pub define : Table → List ℕ → Table
 define t b = tableIn (t .nodes) (set (t .counts) (t .defs) (getD b 0 0)) (set (t .bodies) (t .defs) (getD b 1 0)) (t .n) (t .defs + 1) (t .main)
 
--- behind a main node, which is marked: bytes are left, or a node has no name
+-- behind a main node, which is taken: bytes are left, or a node has no name
 unfoldable pub endNumber : ℕ → ℕ → List Bool → ℕ
-endNumber left n named = cond (eqb left 0) (cond (unmarked n named) 6 0) 6
+endNumber left n named = cond (eqb left 0) (cond (untaken n named) 6 0) 6
 
 abbrev pub withMain : Table → ℕ → Table
 withMain t main = tableIn (t .nodes) (t .counts) (t .bodies) (t .n) (t .defs) main

@@ -1,14 +1,15 @@
 // Loads a program table: the fields of its bytes one after the other, each refused or taken into a table by value.
 ghost use mathlib.Core.Path.{_≡_};
 ghost use Prim.Native.Nat.{_≤_};
+ghost use Rattle.program.specs.Table.{nodeLimit};
 ghost use Rattle.load.specs.Loads.{Loads};
 ghost use Rattle.load.specs.Steps.{tableIn, refusal, endNumber};
 
 // A call or fold by definition d has counts[d] parameters and the body bodies[d].
 pub struct Table {
-    pub nodes: [nodes::Node; 256],
-    pub counts: [u8; 256],
-    pub bodies: [u8; 256],
+    pub nodes: [nodes::Node; layout::NODES],
+    pub counts: [u8; layout::BYTES],
+    pub bodies: [u8; layout::BYTES],
     pub n: usize,
     pub defs: usize,
     pub main: u8,
@@ -22,14 +23,14 @@ pub struct Outcome {
 }
 
 // The refusal at the end of the table, behind a main node: bytes are left, or a node has no name.
-fn end_number(left: usize, n: usize, named: &[bool; 256]) -> u32
-    requires { ⌜ n ≤ 256 ⌝ }
+fn end_number(left: usize, n: usize, named: &[bool; layout::NODES]) -> u32
+    requires { ⌜ n ≤ nodeLimit ⌝ }
     ensures { λ r. ⌜ r ≡ endNumber left n (now (named .entry)) ⌝ }
 {
     if left != 0 {
         return 6;
     }
-    if marks::any_unmarked(named, n) {
+    if taken::any_untaken(named, n) {
         return 6;
     }
     0
@@ -37,9 +38,9 @@ fn end_number(left: usize, n: usize, named: &[bool; 256]) -> u32
 
 // The table of these.
 fn hold(
-    nodes: [nodes::Node; 256],
-    counts: [u8; 256],
-    bodies: [u8; 256],
+    nodes: [nodes::Node; layout::NODES],
+    counts: [u8; layout::BYTES],
+    bodies: [u8; layout::BYTES],
     n: usize,
     defs: usize,
     main: u8,
@@ -64,13 +65,20 @@ fn refuse(number: u32, place: usize) -> Outcome
     Outcome {
         number: number,
         place: place,
-        table: hold([none; 256], [0; 256], [0; 256], 0, 0, 0),
+        table: hold(
+            [none; layout::NODES],
+            [0; layout::BYTES],
+            [0; layout::BYTES],
+            0,
+            0,
+            0,
+        ),
     }
 }
 
 // The end of the table t, behind its main node, with so many bytes left.
-fn ended(left: usize, named: &[bool; 256], t: Table) -> Outcome
-    requires { ⌜ t .n ≤ 256 ⌝ }
+fn ended(left: usize, named: &[bool; layout::NODES], t: Table) -> Outcome
+    requires { ⌜ t .n ≤ nodeLimit ⌝ }
     ensures { λ r. ⌜ r ≡ record { number = endNumber left (t .n) (now (named .entry)); place = 0; table = t } ⌝ }
 {
     Outcome {
@@ -86,19 +94,19 @@ pub fn load(s: &[u8]) -> Outcome
     ensures { λ r. ⌜ Loads (now (s .entry)) r ⌝ }
 {
     let none = nodes::none();
-    let mut nodes = [none; 256];
-    let mut counts = [0; 256];
-    let mut bodies = [0; 256];
-    let mut named = [false; 256];
-    let mut slots = [false; 256];
-    let mut kept = [false; 256];
+    let mut nodes = [none; layout::NODES];
+    let mut counts = [0; layout::BYTES];
+    let mut bodies = [0; layout::BYTES];
+    let mut named = [false; layout::NODES];
+    let mut slots = [false; layout::BYTES];
+    let mut kept = [false; layout::BYTES];
     let mut n: usize = 0;
     let mut defs: usize = 0;
     let mut at: usize = 0;
     while at < s.len() {
         let place = n + defs;
-        let f = reader::read_field(s, at);
-        let reader::Field::Whole {
+        let f = wire_reader::read_field(s, at);
+        let wire_reader::Field::Whole {
             tag,
             start,
             len: _,
@@ -110,7 +118,7 @@ pub fn load(s: &[u8]) -> Outcome
         let b = &s[start..next];
         at = next;
         if tag == 1 {
-            let r = rows::read_node(b, n, defs, &counts, &mut named, &mut slots, &mut kept);
+            let r = refusal_rows::read_node(b, n, defs, &counts, &mut named, &mut slots, &mut kept);
             if r.number != 0 {
                 return refuse(r.number, place);
             }
@@ -119,7 +127,7 @@ pub fn load(s: &[u8]) -> Outcome
             n += 1;
             continue;
         }
-        let e = rows::root_number(tag, b, n, defs, &mut named);
+        let e = refusal_rows::root_number(tag, b, n, defs, &mut named);
         if e != 0 {
             return refuse(e, place);
         }

@@ -7,7 +7,8 @@ use lib.IntN.{ℤ, pos}
 use Rattle.number.specs.Number.{mark}
 use Rattle.field.specs.Field.{from}
 use Rattle.network.specs.Cells.{row}
-use Rattle.network.specs.Network.{sensorsAt, heardAt, pendingAt, blockSize, networkSize, base, noMessage, copies, freshBlock, fresh, heardSound, cellSound, firstNot, lowestUnsound, soundness, freshCall}
+use Rattle.network.specs.Network.{sensorsAt, heardAt, pendingAt, blockSize, networkSize, base, noMessage, copies, freshBlock, fresh, heardSound, cellSound}
+use Rattle.network.specs.Network.{firstNot, lowestUnsound, soundness, freshCall}
 
 -- what the examples compute with
 unfoldable opened : ℕ → ℕ

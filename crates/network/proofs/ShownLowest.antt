@@ -36,10 +36,10 @@ abbrev changed : ℕ → ℤ → List ℤ
 changed j z = set freshBlock j z
 
 -- "names the lowest cell that breaks it": the cell itself, at the edges of the rules in the first device
-itself : (lowestUnsound 1 1 freshBlock ≡ none) × (lowestUnsound 1 1 (changed sensorsAt (pos 65536)) ≡ some 16) × (lowestUnsound 1 1 (changed (heardAt 1) (pos 0)) ≡ some 17)
-    × (lowestUnsound 1 1 (changed (heardAt 2) (pos 1000001)) ≡ some 33) × (lowestUnsound 1 1 (changed (pendingAt 1) (pos 1)) ≡ some 273)
-    × (lowestUnsound 1 1 (changed (pendingAt 2 + 15) (pos 0)) ≡ some 304)
-    × (lowestUnsound 1 1 (changed (pendingAt 16 + 15) (pos 0)) ≡ some 528)
+itself : (lowestUnsound 1 1 freshBlock ≡ none) × (lowestUnsound 1 1 (changed sensorsAt (pos 65536)) ≡ some sensorsAt) × (lowestUnsound 1 1 (changed (heardAt 1) (pos 0)) ≡ some (heardAt 1))
+    × (lowestUnsound 1 1 (changed (heardAt 2) (pos 1000001)) ≡ some (heardAt 2)) × (lowestUnsound 1 1 (changed (pendingAt 1) (pos 1)) ≡ some (pendingAt 1))
+    × (lowestUnsound 1 1 (changed (pendingAt 2 + 15) (pos 0)) ≡ some (pendingAt 2 + 15))
+    × (lowestUnsound 1 1 (changed (pendingAt 16 + 15) (pos 0)) ≡ some (pendingAt 16 + 15))
 unfolding opened
 itself = (refl, refl, refl, refl, refl, refl, refl)
 
@@ -58,7 +58,7 @@ unfolding opened
 slot-named = (refl, refl, refl, refl)
 
 -- in the second device the cells count on from its first, and the rows for itself are the second ones
-second-device : (lowestUnsound 1 2 (freshBlock ++ freshBlock) ≡ none) × (lowestUnsound 1 2 (freshBlock ++ changed sensorsAt mark) ≡ some (529 + 16))
+second-device : (lowestUnsound 1 2 (freshBlock ++ freshBlock) ≡ none) × (lowestUnsound 1 2 (freshBlock ++ changed sensorsAt mark) ≡ some (base 2 + sensorsAt))
     × (lowestUnsound 1 2 (freshBlock ++ changed (heardAt 2) (pos 5)) ≡ some (base 2 + heardAt 2))
     × (lowestUnsound 1 2 (freshBlock ++ changed (heardAt 1) (pos 5)) ≡ none) × (lowestUnsound 1 2 (changed (heardAt 2) (pos 5) ++ freshBlock) ≡ none)
 unfolding opened

@@ -1,10 +1,10 @@
 -- Which networks are sound, and what is named of the others, at examples, by computation. Assumes nothing.
 use mathlib.Core.Path.{_≡_, refl}
-use mathlib.Core.List.{List, [], _∷_}
+use mathlib.Core.List.{[], _∷_}
 use mathlib.Core.Option.{none, some}
 use Prim.Native.Nat.{ℕ, _+_, _-_}
 use lib.ListN.{take, set}
-use lib.IntN.{ℤ, pos}
+use lib.IntN.{pos}
 use Rattle.number.specs.Number.{mark}
 use Rattle.network.specs.Cells.{write}
 use Rattle.network.specs.Network.{sensorsAt, heardAt, pendingAt, networkSize, base, copies, freshBlock, fresh, heardSound, pendingSound, cellSound, firstNot, lowestUnsound, unsoundAt, soundness}

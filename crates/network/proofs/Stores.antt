@@ -20,6 +20,13 @@ module _ {A : Type 0} where
   nothing-yet (x ∷ l) zero = refl
   nothing-yet (x ∷ l) (suc at) = ap (x ∷_) (nothing-yet l at)
 
+  -- all of l is replaced
+  pub store-all : (l v : List A) → length l ≡ length v → store l zero v ≡ v
+  store-all [] [] e = refl
+  store-all [] (y ∷ v) e = absurd (omega arith)
+  store-all (x ∷ l) [] e = absurd (omega arith)
+  store-all (x ∷ l) (y ∷ v) e = ap (y ∷_) (store-all l v (omega arith))
+
   pub store-one : (l : List A) (at : ℕ) (v : A) → set l at v ≡ store l at (v ∷ [])
   store-one [] at v = refl
   store-one (x ∷ l) zero v = ap (v ∷_) (nothing-yet l zero)

@@ -1,15 +1,14 @@
 -- The network's cells, fresh and sound. Definitions only: nothing is assumed.
-use mathlib.Core.Bool.{Bool, true, false, not, cond, _&&_, _||_}
+use mathlib.Core.Bool.{Bool, true, not, cond, _&&_, _||_}
 use mathlib.Core.List.{List, [], _∷_, _++_}
 use mathlib.Core.Option.{Option, none, some}
 use Prim.Native.Nat.{ℕ, zero, suc, _+_, _-_, _*_, _/_, _%_}
 use lib.ListN.{length, getD, take, drop, replicate}
-use lib.Dec.{eqb, leb, ltb}
+use lib.Dec.{eqb, ltb}
 use lib.IntN.{ℤ, pos, negsuc}
 use lib.Signed.{leZ}
 use Rattle.number.specs.Number.{mark, eqZ}
 use Rattle.field.specs.Field.{devices}
-use Rattle.network.specs.Cells.{row}
 
 -- the places in a device's cells: its sensors, what it heard from b, what is pending to b, the end
 abbrev pub sensorsAt : ℕ
@@ -40,7 +39,7 @@ copies zero l = []
 copies (suc k) l = l ++ copies k l
 
 abbrev pub freshBlock : List ℤ
-freshBlock = replicate 16 mark ++ (pos 0 ∷ replicate 256 mark ++ copies devices noMessage)
+freshBlock = replicate 16 mark ++ (pos 0 ∷ replicate (pendingAt 1 - heardAt 1) mark ++ copies devices noMessage)
 
 unfoldable pub fresh : List ℤ
 unfolding copies
@@ -68,9 +67,9 @@ pendingSound a block r i z =
 -- fresh."
 unfoldable pub cellSound : ℕ → List ℤ → ℕ → ℤ → Bool
 cellSound a block j z =
-    cond (ltb j 16) true
-    (cond (eqb j 16) (within (pos 0) (pos 65535) z)
-    (cond (ltb j 273) (heardSound a ((j - 17) / 16 + 1) ((j - 17) % 16) z) (pendingSound a block ((j - 273) / 16 + 1) ((j - 273) % 16) z)))
+    cond (ltb j sensorsAt) true
+    (cond (eqb j sensorsAt) (within (pos 0) (pos 65535) z)
+    (cond (ltb j (pendingAt 1)) (heardSound a ((j - heardAt 1) / 16 + 1) ((j - heardAt 1) % 16) z) (pendingSound a block ((j - pendingAt 1) / 16 + 1) ((j - pendingAt 1) % 16) z)))
 
 -- the first place, counted from j, whose cell is not ok
 unfoldable pub firstNot : (ℕ → ℤ → Bool) → ℕ → List ℤ → Option ℕ

@@ -7,12 +7,14 @@ use native.Mathlib.Omega.{arith}
 use lib.ListN.{length, getD, take, drop, replicate, length-drop, length-replicate}
 use lib.Dec.{eqb}
 use Rattle.program.specs.Table as program
-use Rattle.program.specs.Table.{Item, keeps, slot, child, definition, items, itemsOf, valuesIn, outside, picked, code, numbers}
+use Rattle.program.specs.Table.{kindCount, Item, keeps, slot, child, definition, items, itemsOf, valuesIn, outside, picked, code, numbers}
 use Rattle.program.proofs.Items.{same-items, length-values}
-use Rattle.nodes.specs.Values.{childrenOf, nodeOf}
-use Rattle.shapes.specs.Shapes.{leadOf, widthOf, kidsOf, inside}
+use Rattle.nodes.specs.Values.{headOf, childrenOf, nodeOf}
+use Rattle.shapes.specs.Kinds.{callKind}
+use Rattle.shapes.specs.Shapes.{keptItem, slotItem, definitionItem, leadOf, widthOf, kidsOf, inside}
 use Rattle.nodes.specs.Body.{itemOf, constantOf, made}
-use Rattle.nodes.proofs.Items.{first, head, items-are, values-are, lead-below, first-values, first-outside, first-child, first-keeps, first-slot, first-definition, head-length, head-is, picked-append, outside-append, children-inside, children-picked, others-picked}
+use Rattle.nodes.proofs.Items.{first, items-are, values-are, lead-below, first-values, first-outside, first-child, first-kept, first-slot, first-definition}
+use Rattle.nodes.proofs.Items.{head-length, picked-append, outside-append, children-inside, children-picked, others-picked}
 
 -- the node that program's definitions make of a body
 abbrev node : ℕ → ℕ → List ℕ → program.Node
@@ -27,7 +29,7 @@ four k (a ∷ b ∷ c ∷ []) h e = let z : k ≡ 3 = omega arith in rw z
 four k (a ∷ b ∷ c ∷ d ∷ []) h e = let z : k ≡ 4 = omega arith in rw z
 four k (a ∷ b ∷ c ∷ d ∷ f ∷ ks) h e = absurd (omega arith)
 
-module _ (kind count : ℕ) (s : List ℕ) (known : kind < 13) (right : length s ≡ widthOf kind + kidsOf kind count) where
+module _ (kind count : ℕ) (s : List ℕ) (known : kind < kindCount) (right : length s ≡ widthOf kind + kidsOf kind count) where
   abbrev l : ℕ
   l = leadOf kind
 
@@ -35,7 +37,7 @@ module _ (kind count : ℕ) (s : List ℕ) (known : kind < 13) (right : length s
   ks = drop (widthOf kind) s
 
   abbrev vs : List ℕ
-  vs = head l (itemOf l s) (constantOf l s)
+  vs = headOf l (itemOf l s) (constantOf l s)
 
   pub node-values : valuesIn (itemsOf kind count) s ≡ vs ++ ks
   node-values =
@@ -59,7 +61,7 @@ module _ (kind count : ℕ) (s : List ℕ) (known : kind < 13) (right : length s
   node-items : items (node kind count s) ≡ first l ++ replicate (kidsOf kind count) child
   node-items = same-items kind (length (valuesIn (itemsOf kind count) s) - 1) count known call ∙ items-are kind count
     where
-      call : kind ≡ 12 → length (valuesIn (itemsOf kind count) s) - 1 ≡ count
+      call : kind ≡ callKind → length (valuesIn (itemsOf kind count) s) - 1 ≡ count
       call e =
           let a : length (valuesIn (itemsOf kind count) s) ≡ length (itemsOf kind count) = length-values (itemsOf kind count) s in
           let b : length (itemsOf kind count) ≡ 1 + length (replicate count child) = ap (λ (n : ℕ). length (itemsOf n count)) e ∙ omega arith in
@@ -73,16 +75,16 @@ module _ (kind count : ℕ) (s : List ℕ) (known : kind < 13) (right : length s
       node-numbers child
       ∙ cc (first-child l (itemOf l s) (constantOf l s) (lead-below kind), children-picked (kidsOf kind count) ks kids-length)
 
-  node-others : (j : Item) (ns : List ℕ) → eqb 6 (code j) ≡ false → picked j (first l) vs ≡ ns → numbers j (node kind count s) ≡ ns
+  node-others : (j : Item) (ns : List ℕ) → eqb (code child) (code j) ≡ false → picked j (first l) vs ≡ ns → numbers j (node kind count s) ≡ ns
   node-others j ns e q = node-numbers j ∙ cc (q, others-picked j e (kidsOf kind count) ks) ∙ append-nil ns
 
-  pub node-slots : numbers slot (node kind count s) ≡ cond (eqb l 5) (itemOf l s ∷ []) []
+  pub node-slots : numbers slot (node kind count s) ≡ cond (eqb l slotItem) (itemOf l s ∷ []) []
   node-slots = node-others slot _ refl (first-slot l (itemOf l s) (constantOf l s) (lead-below kind))
 
-  pub node-keeps : numbers keeps (node kind count s) ≡ cond (eqb l 4) (itemOf l s ∷ []) []
-  node-keeps = node-others keeps _ refl (first-keeps l (itemOf l s) (constantOf l s) (lead-below kind))
+  pub node-kept : numbers keeps (node kind count s) ≡ cond (eqb l keptItem) (itemOf l s ∷ []) []
+  node-kept = node-others keeps _ refl (first-kept l (itemOf l s) (constantOf l s) (lead-below kind))
 
-  pub node-definitions : numbers definition (node kind count s) ≡ cond (eqb l 7) (itemOf l s ∷ []) []
+  pub node-definitions : numbers definition (node kind count s) ≡ cond (eqb l definitionItem) (itemOf l s ∷ []) []
   node-definitions = node-others definition _ refl (first-definition l (itemOf l s) (constantOf l s) (lead-below kind))
 
   -- the node that the code makes stands for it
@@ -90,7 +92,7 @@ module _ (kind count : ℕ) (s : List ℕ) (known : kind < 13) (right : length s
   unfolding nodeOf made
   node-made h =
       let e : take (kidsOf kind count) (getD ks 0 0 ∷ getD ks 1 0 ∷ getD ks 2 0 ∷ getD ks 3 0 ∷ []) ≡ ks = four (kidsOf kind count) ks h kids-length in
-      cc (node-values, head-is kind (itemOf l s) (constantOf l s))
+      cc (node-values)
 
   pub children-made : kidsOf kind count ≤ 4 → childrenOf (made kind l (kidsOf kind count) s ks) ≡ ks
   unfolding made

@@ -9,10 +9,12 @@ use lib.Dec.{eqb, leb, ltb}
 use borrow.Author.Tests.{ltb-true, lt-ltb, leb-true, ne-eqb, eqb-true, eqb-false}
 use Rattle.program.proofs.Items.{same-items}
 use Rattle.wire.specs.Wire.{bigFrom, big}
-use Rattle.program.specs.Table.{Item, constant, operator, parameter, variable, keeps, slot, child, definition, itemsOf, width, size, valuesIn, inRange, outside, picked, code}
+use Rattle.program.specs.Table.{kindCount, Item, constant, operator, parameter, variable, keeps, slot, child, definition, itemsOf, width, size, valuesIn, inRange, outside, picked, code}
 use Rattle.nodes.specs.Values.{headOf}
 use Rattle.nodes.specs.Ranges.{Ranges}
-use Rattle.shapes.specs.Shapes.{leads, kidCounts, leadOf, widthOf, kidsOf, inside}
+use Rattle.shapes.specs.Kinds.{callKind}
+use Rattle.shapes.specs.Shapes.{keptItem, slotItem, definitionItem, itemCount, itemWidth, shapes, leads, kidCounts, leadOf, widthOf, kidsOf, inside}
+use Rattle.shapes.proofs.ByKind.{by-item}
 use Rattle.nodes.specs.Body.{itemOf, constantOf}
 
 -- the first item by its number
@@ -22,11 +24,7 @@ firsts = [] ∷ (operator ∷ []) ∷ (parameter ∷ []) ∷ (variable ∷ []) �
 abbrev pub first : ℕ → List Item
 first lead = getD firsts lead []
 
--- by kind: its first item and its number of children
-abbrev shapes : ℕ → List (ℕ × ℕ)
-shapes count =
-    (6, 0) ∷ (2, 0) ∷ (3, 0) ∷ (1, 2) ∷ (0, 1) ∷ (4, 2) ∷ (0, 3) ∷ (0, 3) ∷ (5, 1) ∷ (5, 0) ∷ (1, 2) ∷ (7, 2) ∷ (7, count) ∷ []
-
+-- a kind's items, by its shape
 abbrev ofShape : ℕ × ℕ → List Item
 ofShape p = first (p .0) ++ replicate (p .1) child
 
@@ -34,6 +32,14 @@ pub items-are : (kind count : ℕ) → itemsOf kind count ≡ first (leadOf kind
 items-are kind count =
     List·getD-map ofShape (shapes count) kind (0, 0)
     ∙ cc (List·getD-map (λ (p : ℕ × ℕ). p .0) (shapes count) kind (0, 0), List·getD-map (λ (p : ℕ × ℕ). p .1) (shapes count) kind (0, 0))
+
+all-true : (n k : ℕ) → getD (replicate n true) k true ≡ true
+all-true zero k = refl
+all-true (suc n) zero = refl
+all-true (suc n) (suc k) = all-true n k
+
+pub lead-below : (kind : ℕ) → leadOf kind < itemCount
+lead-below kind = ltb-true (leadOf kind) itemCount (sym (List·getD-map (λ (l : ℕ). ltb l itemCount) leads kind 0) ∙ all-true kindCount kind)
 
 size-append : (is js : List Item) → size (is ++ js) ≡ size is + size js
 unfolding size
@@ -47,7 +53,10 @@ size-children (suc k) = omega (arith, size-children k)
 
 pub width-is : (kind : ℕ) → size (first (leadOf kind)) ≡ widthOf kind
 unfolding size
-width-is kind = sym (List·getD-map (λ (l : ℕ). size (first l)) leads kind 0)
+width-is kind =
+    by-item {P = λ l. size (first l) ≡ itemWidth l}
+    record { none = refl; operator = refl; parameter = refl; variable = refl; kept = refl; slot = refl; constant = refl; definition = refl }
+    (leadOf kind) (lead-below kind)
 
 pub size-is : (kind count : ℕ) → size (itemsOf kind count) ≡ widthOf kind + kidsOf kind count
 size-is kind count =
@@ -78,78 +87,74 @@ values-are kind count s h =
     ∙ values-append (first (leadOf kind)) (replicate (kidsOf kind count) child) s
     ∙ cc (width-is kind, children-values (kidsOf kind count) (drop (widthOf kind) s) l)
 
--- what holds of each first item
-eight : (P : ℕ → Type 0) → P 0 → P 1 → P 2 → P 3 → P 4 → P 5 → P 6 → P 7 → (l : ℕ) → l < 8 → P l
-eight P a b c d e f g h zero l = a
-eight P a b c d e f g h (suc zero) l = b
-eight P a b c d e f g h (suc (suc zero)) l = c
-eight P a b c d e f g h (suc (suc (suc zero))) l = d
-eight P a b c d e f g h (suc (suc (suc (suc zero)))) l = e
-eight P a b c d e f g h (suc (suc (suc (suc (suc zero))))) l = f
-eight P a b c d e f g h (suc (suc (suc (suc (suc (suc zero)))))) l = g
-eight P a b c d e f g h (suc (suc (suc (suc (suc (suc (suc zero))))))) l = h
-eight P a b c d e f g h (suc (suc (suc (suc (suc (suc (suc (suc n)))))))) l = absurd (omega arith)
-
-all-true : (n k : ℕ) → getD (replicate n true) k true ≡ true
-all-true zero k = refl
-all-true (suc n) zero = refl
-all-true (suc n) (suc k) = all-true n k
-
-pub lead-below : (kind : ℕ) → leadOf kind < 8
-lead-below kind = ltb-true (leadOf kind) 8 (sym (List·getD-map (λ (l : ℕ). ltb l 8) leads kind 0) ∙ all-true 13 kind)
-
--- the first item's numbers, by the item
-abbrev heads : ℕ → ℕ → List (List ℕ)
-heads i c = [] ∷ (i ∷ []) ∷ (i ∷ []) ∷ (i ∷ []) ∷ (i ∷ []) ∷ (i ∷ []) ∷ (c ∷ []) ∷ (i ∷ []) ∷ []
-
-abbrev pub head : ℕ → ℕ → ℕ → List ℕ
-head lead i c = getD (heads i c) lead []
-
-pub head-is : (kind i c : ℕ) → headOf kind i c ≡ head (leadOf kind) i c
-head-is kind i c = List·getD-map (λ (l : ℕ). head l i c) leads kind 0
-
 one-byte : (s : List ℕ) → big (take 1 s) ≡ getD s 0 0
 unfolding bigFrom
 one-byte [] = refl
 one-byte (b ∷ s) = omega arith
 
-pub first-values : (l : ℕ) (s : List ℕ) → l < 8 → valuesIn (first l) s ≡ head l (itemOf l s) (constantOf l s)
+pub first-values : (l : ℕ) (s : List ℕ) → l < itemCount → valuesIn (first l) s ≡ headOf l (itemOf l s) (constantOf l s)
 unfolding valuesIn itemOf constantOf
 first-values l s h =
     let one : big (take 1 s) ∷ [] ≡ getD s 0 0 ∷ [] = ap (λ (n : ℕ). n ∷ []) (one-byte s) in
-    eight (λ l. valuesIn (first l) s ≡ head l (itemOf l s) (constantOf l s))
-    refl one one one one one refl one l h
+    by-item {P = λ l. valuesIn (first l) s ≡ headOf l (itemOf l s) (constantOf l s)}
+    record { none = refl; operator = one; parameter = one; variable = one; kept = one; slot = one; constant = refl; definition = one }
+    l h
 
 -- its range
-pub first-outside : (l i c : ℕ) → l < 8 → outside (first l) (head l i c) ≡ not (inside l i c)
+pub first-outside : (l i c : ℕ) → l < itemCount → outside (first l) (headOf l i c) ≡ not (inside l i c)
 unfolding outside inside
 first-outside l i c h =
-    eight (λ l. outside (first l) (head l i c) ≡ not (inside l i c))
-    refl (or-false (not (ltb i 9))) (or-false (not (ltb i 4))) (or-false (not (ltb i 16))) (or-false (not (ltb i 16))) (slots i) (or-false (not (not (eqb c 0x80000000)))) refl l h
+    by-item {P = λ l. outside (first l) (headOf l i c) ≡ not (inside l i c)}
+    record {
+      none = refl;
+      operator = or-false (not (ltb i 9));
+      parameter = or-false (not (ltb i 4));
+      variable = or-false (not (ltb i 16));
+      kept = or-false (not (ltb i 16));
+      slot = slots i;
+      constant = or-false (not (not (eqb c 0x80000000)));
+      definition = refl;
+    }
+    l h
   where
     slots : (i : ℕ) → (not (ltb 0 i && ltb i 16) || false) ≡ not (cond (eqb i 0) false (ltb i 16))
     slots zero = refl
     slots (suc i) = rw (lt-ltb 0 (suc i) (omega arith), ne-eqb (suc i) 0 (λ e. omega arith)) (or-false (not (ltb (suc i) 16)))
 
 -- what it names
-pub first-child : (l i c : ℕ) → l < 8 → picked child (first l) (head l i c) ≡ []
+pub first-child : (l i c : ℕ) → l < itemCount → picked child (first l) (headOf l i c) ≡ []
 unfolding picked
-first-child l i c h = eight (λ l. picked child (first l) (head l i c) ≡ []) refl refl refl refl refl refl refl refl l h
+first-child l i c h =
+    by-item {P = λ l. picked child (first l) (headOf l i c) ≡ []}
+    record { none = refl; operator = refl; parameter = refl; variable = refl; kept = refl; slot = refl; constant = refl; definition = refl }
+    l h
 
-pub first-keeps : (l i c : ℕ) → l < 8 → picked keeps (first l) (head l i c) ≡ cond (eqb l 4) (i ∷ []) []
+pub first-kept : (l i c : ℕ) → l < itemCount → picked keeps (first l) (headOf l i c) ≡ cond (eqb l keptItem) (i ∷ []) []
 unfolding picked
-first-keeps l i c h = eight (λ l. picked keeps (first l) (head l i c) ≡ cond (eqb l 4) (i ∷ []) []) refl refl refl refl refl refl refl refl l h
+first-kept l i c h =
+    by-item {P = λ l. picked keeps (first l) (headOf l i c) ≡ cond (eqb l keptItem) (i ∷ []) []}
+    record { none = refl; operator = refl; parameter = refl; variable = refl; kept = refl; slot = refl; constant = refl; definition = refl }
+    l h
 
-pub first-slot : (l i c : ℕ) → l < 8 → picked slot (first l) (head l i c) ≡ cond (eqb l 5) (i ∷ []) []
+pub first-slot : (l i c : ℕ) → l < itemCount → picked slot (first l) (headOf l i c) ≡ cond (eqb l slotItem) (i ∷ []) []
 unfolding picked
-first-slot l i c h = eight (λ l. picked slot (first l) (head l i c) ≡ cond (eqb l 5) (i ∷ []) []) refl refl refl refl refl refl refl refl l h
+first-slot l i c h =
+    by-item {P = λ l. picked slot (first l) (headOf l i c) ≡ cond (eqb l slotItem) (i ∷ []) []}
+    record { none = refl; operator = refl; parameter = refl; variable = refl; kept = refl; slot = refl; constant = refl; definition = refl }
+    l h
 
-pub first-definition : (l i c : ℕ) → l < 8 → picked definition (first l) (head l i c) ≡ cond (eqb l 7) (i ∷ []) []
+pub first-definition : (l i c : ℕ) → l < itemCount → picked definition (first l) (headOf l i c) ≡ cond (eqb l definitionItem) (i ∷ []) []
 unfolding picked
-first-definition l i c h = eight (λ l. picked definition (first l) (head l i c) ≡ cond (eqb l 7) (i ∷ []) []) refl refl refl refl refl refl refl refl l h
+first-definition l i c h =
+    by-item {P = λ l. picked definition (first l) (headOf l i c) ≡ cond (eqb l definitionItem) (i ∷ []) []}
+    record { none = refl; operator = refl; parameter = refl; variable = refl; kept = refl; slot = refl; constant = refl; definition = refl }
+    l h
 
-pub head-length : (l i c : ℕ) → l < 8 → length (first l) ≡ length (head l i c)
-head-length l i c h = eight (λ l. length (first l) ≡ length (head l i c)) refl refl refl refl refl refl refl refl l h
+pub head-length : (l i c : ℕ) → l < itemCount → length (first l) ≡ length (headOf l i c)
+head-length l i c h =
+    by-item {P = λ l. length (first l) ≡ length (headOf l i c)}
+    record { none = refl; operator = refl; parameter = refl; variable = refl; kept = refl; slot = refl; constant = refl; definition = refl }
+    l h
 
 -- items one behind the other
 pub picked-append : (j : Item) (is js : List Item) (vs ws : List ℕ) → length is ≡ length vs → picked j (is ++ js) (vs ++ ws) ≡ picked j is vs ++ picked j js ws
@@ -189,25 +194,25 @@ children-picked zero (v ∷ vs) h = absurd (omega arith)
 children-picked (suc k) [] h = absurd (omega arith)
 children-picked (suc k) (v ∷ vs) h = ap (λ (l : List ℕ). v ∷ l) (children-picked k vs (omega arith))
 
-pub others-picked : (j : Item) → eqb 6 (code j) ≡ false → (k : ℕ) (vs : List ℕ) → picked j (replicate k child) vs ≡ []
+pub others-picked : (j : Item) → eqb (code child) (code j) ≡ false → (k : ℕ) (vs : List ℕ) → picked j (replicate k child) vs ≡ []
 unfolding picked
 others-picked j e zero vs = refl
 others-picked j e (suc k) [] = refl
 others-picked j e (suc k) (v ∷ vs) = rw e (others-picked j e k vs)
 
 -- only a call's number of children depends on the count, and no other kind has more than 4
-pub same-kids : (kind m n : ℕ) → kind < 13 → (kind ≡ 12 → m ≡ n) → kidsOf kind m ≡ kidsOf kind n
+pub same-kids : (kind m n : ℕ) → kind < kindCount → (kind ≡ callKind → m ≡ n) → kidsOf kind m ≡ kidsOf kind n
 same-kids kind m n h f = let e : itemsOf kind m ≡ itemsOf kind n = same-items kind m n h f in omega (arith, ap size e, size-is kind m, size-is kind n)
 
-pub few-kids : (kind count : ℕ) → kind < 13 → (kind ≡ 12 → count ≤ 4) → kidsOf kind count ≤ 4
-few-kids kind count h f = go (eqb kind 12) refl
+pub few-kids : (kind count : ℕ) → kind < kindCount → (kind ≡ callKind → count ≤ 4) → kidsOf kind count ≤ 4
+few-kids kind count h f = go (eqb kind callKind) refl
   where
     none : kidsOf kind 0 ≤ 4
-    none = leb-true (kidsOf kind 0) 4 (sym (List·getD-map (λ (k : ℕ). leb k 4) (kidCounts 0) kind 0) ∙ all-true 13 kind)
+    none = leb-true (kidsOf kind 0) 4 (sym (List·getD-map (λ (k : ℕ). leb k 4) (kidCounts 0) kind 0) ∙ all-true kindCount kind)
 
-    go : (b : Bool) → eqb kind 12 ≡ b → kidsOf kind count ≤ 4
-    go true q = let e : kind ≡ 12 = eqb-true kind 12 q in rw e (f e)
-    go false q = let d : kidsOf kind count ≡ kidsOf kind 0 = same-kids kind count 0 h (λ e. absurd (eqb-false kind 12 q e)) in rw d none
+    go : (b : Bool) → eqb kind callKind ≡ b → kidsOf kind count ≤ 4
+    go true q = let e : kind ≡ callKind = eqb-true kind callKind q in rw e (f e)
+    go false q = let d : kidsOf kind count ≡ kidsOf kind 0 = same-kids kind count 0 h (λ e. absurd (eqb-false kind callKind q e)) in rw d none
 
 -- an item that passes the code's test is in its range
 pub in-ranges : (l i c : ℕ) → inside l i c ≡ true → Ranges l i c
@@ -217,7 +222,7 @@ in-ranges l i c h =
       operator = λ e. ltb-true i 9 (rw e at h);
       parameter = λ e. ltb-true i 4 (rw e at h);
       variable = λ e. ltb-true i 16 (rw e at h);
-      keeps = λ e. ltb-true i 16 (rw e at h);
+      kept = λ e. ltb-true i 16 (rw e at h);
       slot = λ e. slots (eqb i 0) refl (rw e at h);
       constant = λ e q. true≢false (sym (rw (e, q) at h));
     }

@@ -5,17 +5,17 @@ use Prim.Native.Nat.{ℕ}
 use lib.ListN.{getD, take, drop}
 use lib.Dec.{eqb}
 use Rattle.wire.specs.Wire.{big}
-use Rattle.shapes.specs.Shapes.{leadOf, widthOf, kidsOf}
+use Rattle.shapes.specs.Shapes.{noItem, constantItem, leadOf, widthOf, kidsOf}
 use Rattle.nodes.specs.declared.Node.{Node}
 
 abbrev pub noNode : Node
 noNode = record { kind = 0; item = 0; kids = 0; a = 0; b = 0; c = 0; d = 0; constant = 0 }
 
 unfoldable pub itemOf : ℕ → List ℕ → ℕ
-itemOf lead s = cond (eqb lead 0) 0 (cond (eqb lead 6) 0 (getD s 0 0))
+itemOf lead s = cond (eqb lead noItem) 0 (cond (eqb lead constantItem) 0 (getD s 0 0))
 
 unfoldable pub constantOf : ℕ → List ℕ → ℕ
-constantOf lead s = cond (eqb lead 6) (big (take 4 s)) 0
+constantOf lead s = cond (eqb lead constantItem) (big (take 4 s)) 0
 
 unfoldable pub made : ℕ → ℕ → ℕ → List ℕ → List ℕ → Node
 made kind lead kids s ks =

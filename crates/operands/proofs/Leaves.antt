@@ -1,36 +1,45 @@
--- A leaf by its form, and that it has no operand. Assumes nothing.
+-- A leaf has no operand and no body, and binds nothing: computed for each form. Assumes nothing.
 use mathlib.Core.Path.{_≡_, refl}
-use mathlib.Core.Bool.{Bool, true, false, _||_}
-use Prim.Native.Nat.{ℕ, zero, suc, _<_}
+use mathlib.Core.Bool.{Bool, true, false, not, _&&_, _||_}
+use Prim.Native.Nat.{ℕ}
 use native.Mathlib.Omega.{arith}
-use lib.Dec.{eqb, ltb}
-use borrow.Author.Tests.{ltb-true, eqb-true}
+use lib.ListN.{getD}
+use lib.Dec.{eqb}
+use borrow.Author.Tests.{eqb-true, not-true}
+use Rattle.program.proofs.Tests.{both}
+use Rattle.bits.specs.Bits.{hasBit}
+use Rattle.bits.proofs.Bits.{all-below}
+use Rattle.words.specs.Form.{foldByForm, callForm}
 use Rattle.words.specs.Word.{form}
-use Rattle.operands.specs.Formed.{width, isLeaf}
+use Rattle.operands.specs.Formed.{widths, width, leafSet, bodySet, bindSet, isLeaf, hasBody, binds}
 
-pub data Leaf (w : ℕ) : Type 0 where
-  leaf-0 : form w ≡ 0 → Leaf w
-  leaf-1 : form w ≡ 1 → Leaf w
-  leaf-2 : form w ≡ 2 → Leaf w
-  leaf-17 : form w ≡ 17 → Leaf w
+pub record Leaf (w : ℕ) : Type 0 where
+  pub narrow : width w ≡ 0
+  pub bodiless : hasBody w ≡ false
+  pub free : binds w ≡ false
+  pub folds : eqb (form w) foldByForm ≡ false
+  pub calls : eqb (form w) callForm ≡ false
+
+-- what a form that is a leaf is besides
+plain : ℕ → Bool
+plain f = eqb (getD widths f 0) 0 && (not (hasBit f bodySet) && (not (hasBit f bindSet) && (not (eqb f foldByForm) && not (eqb f callForm))))
+
+leaf-plain : ℕ → Bool
+leaf-plain f = not (hasBit f leafSet) || plain f
 
 pub leaf-of : (w : ℕ) → isLeaf w ≡ true → Leaf w
-unfolding isLeaf
-leaf-of w e = go (ltb (form w) 3) refl e
-  where
-    low : (k : ℕ) → form w ≡ k → k < 3 → Leaf w
-    low zero q h = leaf-0 q
-    low (suc zero) q h = leaf-1 q
-    low (suc (suc zero)) q h = leaf-2 q
-    low (suc (suc (suc k))) q h = absurd (omega arith)
-
-    go : (b : Bool) → ltb (form w) 3 ≡ b → (b || eqb (form w) 17) ≡ true → Leaf w
-    go true q e = low (form w) refl (ltb-true (form w) 3 q)
-    go false q e = leaf-17 (eqb-true (form w) 17 e)
-
-pub leaf-width : (w : ℕ) → Leaf w → width w ≡ 0
-unfolding width
-leaf-width w (leaf-0 h) = rw h
-leaf-width w (leaf-1 h) = rw h
-leaf-width w (leaf-2 h) = rw h
-leaf-width w (leaf-17 h) = rw h
+unfolding leaf-plain plain width
+leaf-of w e =
+    let p : plain (form w) ≡ true = rw e at (all-below leaf-plain 32 refl (form w) (omega arith)) in
+    let (a, q) = both (eqb (getD widths (form w) 0) 0) _ p in
+    let (b, r) = both (not (hasBody w)) _ q in
+    let (c, s) = both (not (binds w)) _ r in
+    let (d, t) = both (not (eqb (form w) foldByForm)) _ s in
+    let g : eqb (form w) callForm ≡ false = not-true (eqb (form w) callForm) t in
+    record {
+      narrow = rw g (eqb-true (getD widths (form w) 0) 0 a);
+      bodiless = not-true (hasBody w) b;
+      free = not-true (binds w) c;
+      folds = not-true (eqb (form w) foldByForm) d;
+      calls = g;
+    }

@@ -1,4 +1,5 @@
 pub mod Leaves
 pub mod Digits
-pub mod Trees
+pub mod Views
 pub mod Below
+pub mod Found

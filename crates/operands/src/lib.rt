@@ -1,21 +1,55 @@
-// The nodes that a word names: how many operands it has, which they are, whether it has a body, whether it names none.
+// The nodes that a word names: how many operands it has, which they are. And what its form says besides.
+use unpack::count_of;
 use unpack::form_of;
 ghost use mathlib.Core.Path.{_≡_};
 ghost use Prim.Native.Nat.{_<_};
-ghost use Rattle.operands.specs.Formed.{width, operand as operandAt, isLeaf, hasBody};
+ghost use Rattle.bits.specs.Bits.{hasBit};
+ghost use Rattle.words.specs.Word.{form};
+ghost use Rattle.operands.specs.Formed.{width, operand as operandAt};
 
 // How many operands a form has, two bits each, form 0 lowest; but for a call, whose count says it.
-const WIDTHS: u64 = 0xb10022f980;
+const WIDTHS: u64 = (2 << (2 * unpack::OPERATOR))
+    | (1 << (2 * unpack::SENSE))
+    | (2 << (2 * unpack::REP))
+    | (3 << (2 * unpack::IF))
+    | (3 << (2 * unpack::MUX))
+    | (2 << (2 * unpack::FOLD_BY))
+    | (2 << (2 * unpack::FOLD))
+    | (1 << (2 * unpack::NBR))
+    | (3 << (2 * unpack::FIELD_IF))
+    | (2 << (2 * unpack::FIELD_OPERATOR));
 
-// The forms that name no other node, a bit each.
-const LEAVES: u32 = 0x20007;
+// Sets of forms, a bit each: those that name no node,
+pub const LEAF: u32 = (1 << unpack::CONSTANT)
+    | (1 << unpack::PARAMETER)
+    | (1 << unpack::VARIABLE)
+    | (1 << unpack::RANGE);
+
+// that have a body,
+pub const BODY: u32 = (1 << unpack::FOLD_BY) | (1 << unpack::CALL);
+
+// that bind a variable in operand 1,
+pub const BIND: u32 = 1 << unpack::REP;
+
+// that read a variable,
+pub const READ: u32 = 1 << unpack::VARIABLE;
+
+// that are spatial of themselves.
+pub const SPATIAL: u32 = (1 << unpack::REP) | (1 << unpack::NBR) | (1 << unpack::RANGE);
+
+// Whether a word's form is in a set.
+pub fn is(w: u64, set: u32) -> bool
+    ensures { λ r. ⌜ r ≡ hasBit (form w) set ⌝ }
+{
+    (set >> form_of(w)) % 2 == 1
+}
 
 pub fn width_of(w: u64) -> u8
     ensures { λ r. ⌜ r ≡ width w ⌝ }
 {
     let form = form_of(w);
-    if form == 9 {
-        return (w / 576460752303423488 % 8) as u8;
+    if form == unpack::CALL {
+        return count_of(w);
     }
     ((WIDTHS >> (2 * (form as u32))) % 4) as u8
 }
@@ -26,22 +60,4 @@ pub fn operand(w: u64, j: u32) -> usize
     ensures { λ r. ⌜ r ≡ operandAt w j ⌝ }
 {
     ((w >> (9 + 10 * j)) % 1024) as usize
-}
-
-// Whether a node names no other, by its form: constant, parameter, variable, nbr-range.
-pub fn leaf(w: u64) -> bool
-    ensures { λ r. ⌜ r ≡ isLeaf w ⌝ }
-{
-    (LEAVES >> form_of(w)) % 2 == 1
-}
-
-// Whether a node has a body: a fold by definition, a call.
-pub fn has_body(w: u64) -> bool
-    ensures { λ r. ⌜ r ≡ hasBody w ⌝ }
-{
-    let k = form_of(w);
-    if k == 8 {
-        return true;
-    }
-    k == 9
 }

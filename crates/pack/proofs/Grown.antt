@@ -9,7 +9,7 @@ use Rattle.program.specs.Table.{Node, Definition}
 use Rattle.program.specs.Tree.{Expr, nothing, treeOf, grown}
 use Rattle.words.specs.Word.{word}
 use Rattle.words.specs.Trees.{made, below, treeAt}
-use Rattle.operands.proofs.Trees.{at-below}
+use Rattle.words.proofs.Trees.{at-below}
 
 -- the trees of the first k nodes
 abbrev pub firsts : List Definition → List Node → ℕ → List Expr
@@ -50,7 +50,7 @@ module _ (ds : List Definition) (xs : List Node) (d : Node) where
       sym (grown-first ds (drop k xs) (firsts ds xs k) j (omega (arith, length-firsts k l)))
       ∙ ap (λ (es : List Expr). getD es j nothing) (sym (grown-append ds (take k xs) (drop k xs) []) ∙ ap (grown ds []) (take-append-drop k xs))
 
-  -- node k's tree, from those of the nodes before it
+  -- node k's tree, from those of the nodeLimit before it
   pub tree-is : (k : ℕ) → k < length xs → getD (grown ds [] xs) k nothing ≡ treeOf ds (firsts ds xs k) k (getD xs k d)
   tree-is k h =
       sym (first-tree (suc k) k (omega arith) h) ∙ ap (λ (es : List Expr). getD es k nothing) (firsts-suc k h)

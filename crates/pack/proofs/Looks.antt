@@ -1,54 +1,28 @@
 -- The lowest node that offends, as the pass looks for it. Assumes nothing.
 use mathlib.Core.Path.{_≡_, refl, sym, ap, subst, _∙_}
-use mathlib.Core.Bool.{Bool, true, false, cond, _&&_, _||_, or-true, or-false, true≢false}
+use mathlib.Core.Bool.{Bool, true, false, cond, _&&_, _||_, or-true, or-false}
 use mathlib.Core.List.{List, [], _∷_}
 use mathlib.Core.Option.{none, some}
-use Prim.Native.Nat.{ℕ, zero, suc, _+_, _≤_, _<_}
-use native.Mathlib.Nat.{min-eq-right}
+use Prim.Native.Nat.{ℕ, _+_, _≤_, _<_}
 use native.Mathlib.Omega.{arith}
 use lib.Dec.{eqb, ltb}
 use borrow.Author.Count.{below-none, below-more}
-use borrow.Author.Tests.{eqb-true, eqb-false, eq-eqb, ltb-true, ltb-false}
-use Rattle.program.specs.Table.{among}
+use borrow.Author.Tests.{eqb-true, eq-eqb, ltb-true, ltb-false}
+use Rattle.operands.specs.Found.{found}
+use Rattle.program.specs.Table.{among, nodeLimit}
 use Rattle.program.specs.Check.{lowest, offending}
 use Rattle.program.proofs.Tests.{neither, notBoth}
-use Rattle.operands.specs.Formed.{nodes}
 use Rattle.sorts.specs.Sorts.{fieldAt, firstBad, lowerField, lowestField}
-use Rattle.pack.specs.Packs.{found}
-
-module _ (p : ℕ → Bool) where
-  none-offends : (n : ℕ) → ((k : ℕ) → k < n → p k ≡ false) → lowest (offending p n) ≡ none
-  unfolding lowest offending
-  none-offends zero h = refl
-  none-offends (suc n) h = rw (h n (omega arith)) (none-offends n (λ k l. h k (omega arith)))
-
-  one-offends : (n r : ℕ) → r < n → ((k : ℕ) → k < r → p k ≡ false) → p r ≡ true → lowest (offending p n) ≡ some r
-  unfolding lowest offending
-  one-offends zero r l h e = absurd (omega arith)
-  one-offends (suc n) r l h e = go (eqb r n) refl (p n) refl (one-offends n r)
-    where
-      go : (b : Bool) → eqb r n ≡ b → (c : Bool) → p n ≡ c
-          → (r < n → ((k : ℕ) → k < r → p k ≡ false) → p r ≡ true → lowest (offending p n) ≡ some r)
-          → lowest (cond c (n ∷ offending p n) (offending p n)) ≡ some r
-      go true f true g ih = let q : r ≡ n = eqb-true r n f in rw (none-offends n (λ k l. h k (omega arith)), q)
-      go true f false g ih = absurd (true≢false (sym e ∙ ap p (eqb-true r n f) ∙ g))
-      go false f c g ih =
-          let q = eqb-false r n f in
-          let i = ih (omega arith) h e in
-          pick c i
-        where
-          pick : (c : Bool) → lowest (offending p n) ≡ some r → lowest (cond c (n ∷ offending p n) (offending p n)) ≡ some r
-          pick true i = rw i (ap some (min-eq-right (omega arith)))
-          pick false i = i
+use Rattle.operands.proofs.Found.{none-offends, one-offends}
 
 -- r is the lowest of the nodes below i that offend, or that of no node
 pub record Looked (p : ℕ → Bool) (r i : ℕ) : Type 0 where
-  pub most : r ≤ nodes
+  pub most : r ≤ nodeLimit
   pub clean : (k : ℕ) → k < i → k < r → p k ≡ false
-  pub bad : r < nodes → (r < i) × (p r ≡ true)
+  pub bad : r < nodeLimit → (r < i) × (p r ≡ true)
 
 module _ (p : ℕ → Bool) where
-  pub look-none : Looked p nodes 0
+  pub look-none : Looked p nodeLimit 0
   look-none = record { most = omega arith; clean = below-none _; bad = λ l. absurd (omega arith) }
 
   -- a node that does not offend
@@ -60,26 +34,26 @@ module _ (p : ℕ → Bool) where
         bad = λ m. (omega (arith, l .bad m .0), l .bad m .1);
       }
 
-  pub look : (r i : ℕ) (b : Bool) → Looked p r i → i < nodes → b ≡ p i → Looked p (firstBad r i b) (i + 1)
-  look r i b l h e = go (ltb r nodes) refl b refl
+  pub look : (r i : ℕ) (b : Bool) → Looked p r i → i < nodeLimit → b ≡ p i → Looked p (firstBad r i b) (i + 1)
+  look r i b l h e = go (ltb r nodeLimit) refl b refl
     where
-      go : (x : Bool) → ltb r nodes ≡ x → (y : Bool) → b ≡ y → Looked p (cond x r (cond y i nodes)) (i + 1)
+      go : (x : Bool) → ltb r nodeLimit ≡ x → (y : Bool) → b ≡ y → Looked p (cond x r (cond y i nodeLimit)) (i + 1)
       go true q y f =
-          let (o, a) = l .bad (ltb-true r nodes q) in
+          let (o, a) = l .bad (ltb-true r nodeLimit q) in
           record { most = l .most; clean = λ k _ m. l .clean k (omega arith) m; bad = λ _. (omega arith, a) }
       go false q true f =
-          let z : r ≡ nodes = omega (arith, ltb-false r nodes q, l .most) in
+          let z : r ≡ nodeLimit = omega (arith, ltb-false r nodeLimit q, l .most) in
           record { most = omega arith; clean = λ k _ m. l .clean k m (omega arith); bad = λ _. (omega arith, sym e ∙ f) }
       go false q false f =
-          let z : r ≡ nodes = omega (arith, ltb-false r nodes q, l .most) in
+          let z : r ≡ nodeLimit = omega (arith, ltb-false r nodeLimit q, l .most) in
           subst (λ (m : ℕ). Looked p m (i + 1)) z (look-clean r i l (sym e ∙ f))
 
-  pub answer : (r n : ℕ) → n ≤ nodes → Looked p r n → lowest (offending p n) ≡ found r
-  answer r n h l = go (ltb r nodes) refl
+  pub answer : (r n : ℕ) → n ≤ nodeLimit → Looked p r n → lowest (offending p n) ≡ found r
+  answer r n h l = go (ltb r nodeLimit) refl
     where
-      go : (x : Bool) → ltb r nodes ≡ x → lowest (offending p n) ≡ cond x (some r) none
-      go true q = let (o, a) = l .bad (ltb-true r nodes q) in one-offends p n r o (λ k m. l .clean k (omega arith) m) a
-      go false q = none-offends p n (λ k m. l .clean k m (omega (arith, ltb-false r nodes q)))
+      go : (x : Bool) → ltb r nodeLimit ≡ x → lowest (offending p n) ≡ cond x (some r) none
+      go true q = let (o, a) = l .bad (ltb-true r nodeLimit q) in one-offends p n r o (λ k m. l .clean k (omega arith) m) a
+      go false q = none-offends p n (λ k m. l .clean k m (omega (arith, ltb-false r nodeLimit q)))
 
 -- the same nodes offend
 pub alike : {p q : ℕ → Bool} {r n : ℕ} → ((k : ℕ) → k < n → q k ≡ p k) → Looked p r n → Looked q r n
@@ -94,7 +68,7 @@ joined false true true false = refl
 joined false true false false = refl
 joined false false a f = refl
 
-module _ (ws : List ℕ) (n : ℕ) (few : n ≤ nodes) (there : (k : ℕ) → fieldAt ws k ≡ true → k < n) where
+module _ (ws : List ℕ) (n : ℕ) (few : n ≤ nodeLimit) (there : (k : ℕ) → fieldAt ws k ≡ true → k < n) where
   lower : {p : ℕ → Bool} {r : ℕ} (b : ℕ) → Looked p r n → Looked (λ k. p k || eqb k b && fieldAt ws k) (lowerField ws b r) n
   lower {p} {r} b l = go (fieldAt ws b) refl (ltb b r) refl
     where

@@ -7,11 +7,14 @@ use Prim.Native.Nat.{ℕ, zero, suc, _<_, _≤_}
 use native.Mathlib.Omega.{arith}
 use lib.ListN.{getD}
 use lib.Dec.{leb, ltb}
-use Rattle.program.specs.Table.{Definition, noDefinition}
+use Rattle.shapes.proofs.ByKind.{by-kind}
+use Rattle.words.specs.Form.{operatorForm, ifForm, fieldIfForm, fieldOperatorForm, fieldForms}
+use Rattle.shapes.specs.Kinds.{operatorKind, ifKind, callKind}
+use Rattle.program.specs.Table.{Definition, noDefinition, kindCount}
 use Rattle.program.specs.Tree.{Expr, treeOf, isField, sortBroken}
 use Rattle.words.specs.Trees.{at, made}
 use Rattle.nodes.specs.declared.Node.{Node}
-use Rattle.shapes.specs.Shapes.{leadOf, kidsOf}
+use Rattle.shapes.specs.Shapes.{leadOf, kidsOf, definitionItem}
 use Rattle.nodes.specs.Values.{nodeOf}
 use Rattle.encode.specs.Parts.{formBy, IsWord}
 use Rattle.sorts.specs.declared.Flags.{Flags}
@@ -30,11 +33,11 @@ flagsOf es x =
       d = flagIn es (x .kids) 3 (x .d);
     }
 
-field-operator : (z : Bool) → leb 16 (cond z 19 3) ≡ z
+field-operator : (z : Bool) → leb fieldForms (cond z fieldOperatorForm operatorForm) ≡ z
 field-operator true = refl
 field-operator false = refl
 
-field-branch : (z : Bool) → leb 16 (cond z 18 6) ≡ z
+field-branch : (z : Bool) → leb fieldForms (cond z fieldIfForm ifForm) ≡ z
 field-branch true = refl
 field-branch false = refl
 
@@ -51,84 +54,108 @@ module _ (ds : List Definition) (es : List Expr) (n item a b c d constant : ℕ)
 
   module _ (o w : ℕ) where
     abbrev Body : ℕ → Type 0
-    Body kind = leadOf kind ≡ 7 → getD ds item noDefinition .body ≡ o
+    Body kind = leadOf kind ≡ definitionItem → getD ds item noDefinition .body ≡ o
 
-    made-node : (kind count : ℕ) (s t : Bool) → kind < 13 → kidsOf kind count ≤ 4 → Body kind → IsWord (node kind count) o s t w
-        → made n es w ≡ treeOf ds es n (nodeOf (node kind count))
+    abbrev Makes : ℕ → ℕ → Bool → Bool → Type 0
+    Makes kind count s t = IsWord (node kind count) o s t w → made n es w ≡ treeOf ds es n (nodeOf (node kind count))
+
+    made-node : (kind count : ℕ) (s t : Bool) → kind < kindCount → kidsOf kind count ≤ 4 → Body kind → Makes kind count s t
     unfolding made treeOf nodeOf
-    made-node zero m s t h l g r = let q = r .isConstant refl in rw (q .isForm, q .isNumber)
-    made-node (suc zero) m s t h l g r = let q = r .isParts (λ z. omega arith) in rw (q .isForm, q .isItem)
-    made-node (suc (suc zero)) m s t h l g r = let q = r .isParts (λ z. omega arith) in rw (q .isForm, q .isItem)
-    made-node (suc (suc (suc zero))) m true t h l g r = let q = r .isParts (λ z. omega arith) in rw (q .isForm, q .isItem, q .isP1, q .isP2)
-    made-node (suc (suc (suc zero))) m false t h l g r = let q = r .isParts (λ z. omega arith) in rw (q .isForm, q .isItem, q .isP1, q .isP2)
-    made-node (suc (suc (suc (suc zero)))) m s t h l g r = let q = r .isParts (λ z. omega arith) in rw (q .isForm, q .isP1)
-    made-node (suc (suc (suc (suc (suc zero))))) m s t h l g r = let q = r .isParts (λ z. omega arith) in rw (q .isForm, q .isItem, q .isP1, q .isP2)
-    made-node (suc (suc (suc (suc (suc (suc zero)))))) m s true h l g r = let q = r .isParts (λ z. omega arith) in rw (q .isForm, q .isP1, q .isP2, q .isP3)
-    made-node (suc (suc (suc (suc (suc (suc zero)))))) m s false h l g r = let q = r .isParts (λ z. omega arith) in rw (q .isForm, q .isP1, q .isP2, q .isP3)
-    made-node (suc (suc (suc (suc (suc (suc (suc zero))))))) m s t h l g r = let q = r .isParts (λ z. omega arith) in rw (q .isForm, q .isP1, q .isP2, q .isP3)
-    made-node (suc (suc (suc (suc (suc (suc (suc (suc zero)))))))) m s t h l g r = let q = r .isParts (λ z. omega arith) in rw (q .isForm, q .isItem, q .isP1)
-    made-node (suc (suc (suc (suc (suc (suc (suc (suc (suc zero))))))))) m s t h l g r = let q = r .isParts (λ z. omega arith) in rw (q .isForm, q .isItem)
-    made-node (suc (suc (suc (suc (suc (suc (suc (suc (suc (suc zero)))))))))) m s t h l g r =
-        let q = r .isParts (λ z. omega arith) in rw (q .isForm, q .isItem, q .isP1, q .isP2)
-    made-node (suc (suc (suc (suc (suc (suc (suc (suc (suc (suc (suc zero))))))))))) m s t h l g r =
-        let q = r .isParts (λ z. omega arith) in rw (q .isForm, q .isBody, q .isP1, q .isP2, g refl)
-    made-node (suc (suc (suc (suc (suc (suc (suc (suc (suc (suc (suc (suc zero)))))))))))) zero s t h l g r =
-        let q = r .isParts (λ z. omega arith) in rw (q .isForm, q .isBody, q .isCount, g refl)
-    made-node (suc (suc (suc (suc (suc (suc (suc (suc (suc (suc (suc (suc zero)))))))))))) (suc zero) s t h l g r =
-        let q = r .isParts (λ z. omega arith) in rw (q .isForm, q .isBody, q .isCount, q .isP1, g refl)
-    made-node (suc (suc (suc (suc (suc (suc (suc (suc (suc (suc (suc (suc zero)))))))))))) (suc (suc zero)) s t h l g r =
-        let q = r .isParts (λ z. omega arith) in rw (q .isForm, q .isBody, q .isCount, q .isP1, q .isP2, g refl)
-    made-node (suc (suc (suc (suc (suc (suc (suc (suc (suc (suc (suc (suc zero)))))))))))) (suc (suc (suc zero))) s t h l g r =
-        let q = r .isParts (λ z. omega arith) in rw (q .isForm, q .isBody, q .isCount, q .isP1, q .isP2, q .isP3, g refl)
-    made-node (suc (suc (suc (suc (suc (suc (suc (suc (suc (suc (suc (suc zero)))))))))))) (suc (suc (suc (suc zero)))) s t h l g r =
-        let q = r .isParts (λ z. omega arith) in rw (q .isForm, q .isBody, q .isCount, q .isP1, q .isP2, q .isP3, q .isP4, g refl)
-    made-node (suc (suc (suc (suc (suc (suc (suc (suc (suc (suc (suc (suc zero)))))))))))) (suc (suc (suc (suc (suc m))))) s t h l g r = absurd (omega arith)
-    made-node (suc (suc (suc (suc (suc (suc (suc (suc (suc (suc (suc (suc (suc k))))))))))))) m s t h l g r = absurd (omega arith)
+    made-node kind count s t =
+        by-kind {P = λ k. kidsOf k count ≤ 4 → Body k → Makes k count s t}
+        record {
+          constant = λ l g r. let q = r .isConstant refl in rw (q .isForm, q .isNumber);
+          parameter = λ l g r. let q = r .isParts (λ z. omega arith) in rw (q .isForm, q .isItem);
+          variable = λ l g r. let q = r .isParts (λ z. omega arith) in rw (q .isForm, q .isItem);
+          operator = λ l g r. sides s r;
+          sense = λ l g r. let q = r .isParts (λ z. omega arith) in rw (q .isForm, q .isP1);
+          rep = λ l g r. let q = r .isParts (λ z. omega arith) in rw (q .isForm, q .isItem, q .isP1, q .isP2);
+          ifThen = λ l g r. branches t r;
+          mux = λ l g r. let q = r .isParts (λ z. omega arith) in rw (q .isForm, q .isP1, q .isP2, q .isP3);
+          nbr = λ l g r. let q = r .isParts (λ z. omega arith) in rw (q .isForm, q .isItem, q .isP1);
+          range = λ l g r. let q = r .isParts (λ z. omega arith) in rw (q .isForm, q .isItem);
+          fold = λ l g r. let q = r .isParts (λ z. omega arith) in rw (q .isForm, q .isItem, q .isP1, q .isP2);
+          foldBy = λ l g r. let q = r .isParts (λ z. omega arith) in rw (q .isForm, q .isBody, q .isP1, q .isP2, g refl);
+          call = λ l g r. calls count l g r;
+        }
+        kind
+      where
+        sides : (s : Bool) → Makes operatorKind count s t
+        sides true r = let q = r .isParts (λ z. omega arith) in rw (q .isForm, q .isItem, q .isP1, q .isP2)
+        sides false r = let q = r .isParts (λ z. omega arith) in rw (q .isForm, q .isItem, q .isP1, q .isP2)
 
-  field-node : (kind count : ℕ) → kind < 13
-      → leb 16 (formBy kind (flagsOf es (node kind count) .a || flagsOf es (node kind count) .b) (flagsOf es (node kind count) .b))
+        branches : (t : Bool) → Makes ifKind count s t
+        branches true r = let q = r .isParts (λ z. omega arith) in rw (q .isForm, q .isP1, q .isP2, q .isP3)
+        branches false r = let q = r .isParts (λ z. omega arith) in rw (q .isForm, q .isP1, q .isP2, q .isP3)
+
+        calls : (m : ℕ) → m ≤ 4 → Body callKind → Makes callKind m s t
+        calls zero l g r = let q = r .isParts (λ z. omega arith) in rw (q .isForm, q .isBody, q .isCount, g refl)
+        calls (suc zero) l g r = let q = r .isParts (λ z. omega arith) in rw (q .isForm, q .isBody, q .isCount, q .isP1, g refl)
+        calls (suc (suc zero)) l g r = let q = r .isParts (λ z. omega arith) in rw (q .isForm, q .isBody, q .isCount, q .isP1, q .isP2, g refl)
+        calls (suc (suc (suc zero))) l g r = let q = r .isParts (λ z. omega arith) in rw (q .isForm, q .isBody, q .isCount, q .isP1, q .isP2, q .isP3, g refl)
+        calls (suc (suc (suc (suc zero)))) l g r = let q = r .isParts (λ z. omega arith) in rw (q .isForm, q .isBody, q .isCount, q .isP1, q .isP2, q .isP3, q .isP4, g refl)
+        calls (suc (suc (suc (suc (suc m))))) l g r = absurd (omega arith)
+
+  abbrev Fielded : ℕ → ℕ → Type 0
+  Fielded kind count =
+      leb fieldForms (formBy kind (flagsOf es (node kind count) .a || flagsOf es (node kind count) .b) (flagsOf es (node kind count) .b))
       ≡ isField (treeOf ds es n (nodeOf (node kind count)))
-  unfolding treeOf nodeOf isField
-  field-node zero m h = refl
-  field-node (suc zero) m h = refl
-  field-node (suc (suc zero)) m h = refl
-  field-node (suc (suc (suc zero))) m h = field-operator (isField (at es a) || isField (at es b))
-  field-node (suc (suc (suc (suc zero)))) m h = refl
-  field-node (suc (suc (suc (suc (suc zero))))) m h = refl
-  field-node (suc (suc (suc (suc (suc (suc zero)))))) m h = field-branch (isField (at es b))
-  field-node (suc (suc (suc (suc (suc (suc (suc zero))))))) m h = refl
-  field-node (suc (suc (suc (suc (suc (suc (suc (suc zero)))))))) m h = refl
-  field-node (suc (suc (suc (suc (suc (suc (suc (suc (suc zero))))))))) m h = refl
-  field-node (suc (suc (suc (suc (suc (suc (suc (suc (suc (suc zero)))))))))) m h = refl
-  field-node (suc (suc (suc (suc (suc (suc (suc (suc (suc (suc (suc zero))))))))))) m h = refl
-  field-node (suc (suc (suc (suc (suc (suc (suc (suc (suc (suc (suc (suc zero)))))))))))) m h = refl
-  field-node (suc (suc (suc (suc (suc (suc (suc (suc (suc (suc (suc (suc (suc k))))))))))))) m h = absurd (omega arith)
 
-  broken-node : (kind count : ℕ) → kind < 13 → kidsOf kind count ≤ 4
-      → brokenBy kind (flagsOf es (node kind count)) ≡ sortBroken (treeOf ds es n (nodeOf (node kind count)))
+  field-node : (kind count : ℕ) → kind < kindCount → Fielded kind count
+  unfolding treeOf nodeOf isField
+  field-node kind count =
+      by-kind {P = λ k. Fielded k count}
+      record {
+        constant = refl;
+        parameter = refl;
+        variable = refl;
+        operator = field-operator (isField (at es a) || isField (at es b));
+        sense = refl;
+        rep = refl;
+        ifThen = field-branch (isField (at es b));
+        mux = refl;
+        nbr = refl;
+        range = refl;
+        fold = refl;
+        foldBy = refl;
+        call = refl;
+      }
+      kind
+
+  abbrev Broken : ℕ → ℕ → Type 0
+  Broken kind count = brokenBy kind (flagsOf es (node kind count)) ≡ sortBroken (treeOf ds es n (nodeOf (node kind count)))
+
+  broken-node : (kind count : ℕ) → kind < kindCount → kidsOf kind count ≤ 4 → Broken kind count
   unfolding treeOf nodeOf isField sortBroken
-  broken-node zero m h l = refl
-  broken-node (suc zero) m h l = refl
-  broken-node (suc (suc zero)) m h l = refl
-  broken-node (suc (suc (suc zero))) m h l = refl
-  broken-node (suc (suc (suc (suc zero)))) m h l = refl
-  broken-node (suc (suc (suc (suc (suc zero))))) m h l = refl
-  broken-node (suc (suc (suc (suc (suc (suc zero)))))) m h l = differ-sorts (isField (at es a)) (isField (at es b)) (isField (at es c))
-  broken-node (suc (suc (suc (suc (suc (suc (suc zero))))))) m h l = refl
-  broken-node (suc (suc (suc (suc (suc (suc (suc (suc zero)))))))) m h l = refl
-  broken-node (suc (suc (suc (suc (suc (suc (suc (suc (suc zero))))))))) m h l = refl
-  broken-node (suc (suc (suc (suc (suc (suc (suc (suc (suc (suc zero)))))))))) m h l = refl
-  broken-node (suc (suc (suc (suc (suc (suc (suc (suc (suc (suc (suc zero))))))))))) m h l = refl
-  broken-node (suc (suc (suc (suc (suc (suc (suc (suc (suc (suc (suc (suc zero)))))))))))) zero h l = refl
-  broken-node (suc (suc (suc (suc (suc (suc (suc (suc (suc (suc (suc (suc zero)))))))))))) (suc zero) h l = refl
-  broken-node (suc (suc (suc (suc (suc (suc (suc (suc (suc (suc (suc (suc zero)))))))))))) (suc (suc zero)) h l = refl
-  broken-node (suc (suc (suc (suc (suc (suc (suc (suc (suc (suc (suc (suc zero)))))))))))) (suc (suc (suc zero))) h l = refl
-  broken-node (suc (suc (suc (suc (suc (suc (suc (suc (suc (suc (suc (suc zero)))))))))))) (suc (suc (suc (suc zero)))) h l = refl
-  broken-node (suc (suc (suc (suc (suc (suc (suc (suc (suc (suc (suc (suc zero)))))))))))) (suc (suc (suc (suc (suc m))))) h l = absurd (omega arith)
-  broken-node (suc (suc (suc (suc (suc (suc (suc (suc (suc (suc (suc (suc (suc k))))))))))))) m h l = absurd (omega arith)
+  broken-node kind count =
+      by-kind {P = λ k. kidsOf k count ≤ 4 → Broken k count}
+      record {
+        constant = λ l. refl;
+        parameter = λ l. refl;
+        variable = λ l. refl;
+        operator = λ l. refl;
+        sense = λ l. refl;
+        rep = λ l. refl;
+        ifThen = λ l. differ-sorts (isField (at es a)) (isField (at es b)) (isField (at es c));
+        mux = λ l. refl;
+        nbr = λ l. refl;
+        range = λ l. refl;
+        fold = λ l. refl;
+        foldBy = λ l. refl;
+        call = λ l. calls count l;
+      }
+      kind
+    where
+      calls : (m : ℕ) → m ≤ 4 → Broken callKind m
+      calls zero l = refl
+      calls (suc zero) l = refl
+      calls (suc (suc zero)) l = refl
+      calls (suc (suc (suc zero))) l = refl
+      calls (suc (suc (suc (suc zero)))) l = refl
+      calls (suc (suc (suc (suc (suc m))))) l = absurd (omega arith)
 
 -- ---- the same of a node with its own number of children
-module _ (ds : List Definition) (es : List Expr) (n : ℕ) (x : Node) (count : ℕ) (h : x .kind < 13) (few : x .kids ≤ 4) (e : x .kids ≡ kidsOf (x .kind) count) where
+module _ (ds : List Definition) (es : List Expr) (n : ℕ) (x : Node) (count : ℕ) (h : x .kind < kindCount) (few : x .kids ≤ 4) (e : x .kids ≡ kidsOf (x .kind) count) where
   l : kidsOf (x .kind) count ≤ 4
   l = subst (λ (k : ℕ). k ≤ 4) e few
 
@@ -136,15 +163,15 @@ module _ (ds : List Definition) (es : List Expr) (n : ℕ) (x : Node) (count : �
   with-kids =
       ap (λ (k : ℕ). record { kind = x .kind; item = x .item; kids = k; a = x .a; b = x .b; c = x .c; d = x .d; constant = x .constant }) e
 
-  pub made-is : (o w : ℕ) (s t : Bool) → (leadOf (x .kind) ≡ 7 → getD ds (x .item) noDefinition .body ≡ o) → IsWord x o s t w
+  pub made-is : (o w : ℕ) (s t : Bool) → (leadOf (x .kind) ≡ definitionItem → getD ds (x .item) noDefinition .body ≡ o) → IsWord x o s t w
       → made n es w ≡ treeOf ds es n (nodeOf x)
   made-is o w s t g r =
       subst (λ (y : Node). IsWord y o s t w → made n es w ≡ treeOf ds es n (nodeOf y)) (sym with-kids)
       (made-node ds es n (x .item) (x .a) (x .b) (x .c) (x .d) (x .constant) o w (x .kind) count s t h l g) r
 
-  pub field-is : leb 16 (formBy (x .kind) (flagsOf es x .a || flagsOf es x .b) (flagsOf es x .b)) ≡ isField (treeOf ds es n (nodeOf x))
+  pub field-is : leb fieldForms (formBy (x .kind) (flagsOf es x .a || flagsOf es x .b) (flagsOf es x .b)) ≡ isField (treeOf ds es n (nodeOf x))
   field-is =
-      subst (λ (y : Node). leb 16 (formBy (y .kind) (flagsOf es y .a || flagsOf es y .b) (flagsOf es y .b)) ≡ isField (treeOf ds es n (nodeOf y))) (sym with-kids)
+      subst (λ (y : Node). leb fieldForms (formBy (y .kind) (flagsOf es y .a || flagsOf es y .b) (flagsOf es y .b)) ≡ isField (treeOf ds es n (nodeOf y))) (sym with-kids)
       (field-node ds es n (x .item) (x .a) (x .b) (x .c) (x .d) (x .constant) (x .kind) count h)
 
   pub broken-is : brokenBy (x .kind) (flagsOf es x) ≡ sortBroken (treeOf ds es n (nodeOf x))

@@ -1,24 +1,21 @@
 -- What packing comes to. Internal: no contract of a C function cites it. Definitions only: nothing is assumed.
 use mathlib.Core.Path.{_≡_}
-use mathlib.Core.Bool.{cond}
 use mathlib.Core.List.{List}
-use mathlib.Core.Option.{Option, none, some}
 use Prim.Native.Nat.{ℕ, _<_, _≤_}
 use lib.ListN.{length, getD}
-use lib.Dec.{leb, ltb}
+use lib.Dec.{leb}
+use Rattle.operands.specs.Found.{found}
+use Rattle.program.specs.Table.{nodeLimit}
+use Rattle.words.specs.Form.{parameterForm, fieldForms}
 use Rattle.program.specs.Tree.{tree, isField}
 use Rattle.program.specs.Check.{lowest, offending, sortOffends}
 use Rattle.words.specs.Word.{form, item, word}
 use Rattle.words.specs.Trees.{treeAt}
-use Rattle.operands.specs.Formed.{nodes, AllFormed}
+use Rattle.words.specs.Sound.{Sorted}
+use Rattle.operands.specs.Formed.{AllFormed}
 use Rattle.load.specs.declared.Table.{Table}
 use Rattle.nodes.specs.declared.Node.{Node}
 use Rattle.load.specs.Loads.{tableOf, nodeAt}
-use Rattle.pack.specs.Sorted.{Sorted}
-
--- a node's number as the answer of a search, one that no node has where none is meant
-abbrev pub found : ℕ → Option ℕ
-found r = cond (ltb r nodes) (some r) none
 
 abbrev pub kindOf : Node → ℕ
 kindOf x = x .kind
@@ -28,17 +25,16 @@ itemOf x = x .item
 
 -- xs has what f takes of each node below n
 pub record Column (f : Node → ℕ) (t : Table) (xs : List ℕ) (n : ℕ) : Type 0 where
-  pub long : length xs ≡ nodes
+  pub long : length xs ≡ nodeLimit
   pub each : (k : ℕ) → k < n → getD xs k 0 ≡ f (nodeAt t k)
 
 pub record Packs (t : Table) (ws : List ℕ) (r : ℕ) : Type 0 where
-  pub long : length ws ≡ nodes
+  pub long : length ws ≡ nodeLimit
   pub trees : (n : ℕ) → n < t .n → treeAt ws n ≡ tree (tableOf t) n
-  -- the forms from 16 on give fields
-  pub fields : (n : ℕ) → n < t .n → leb 16 (form (word ws n)) ≡ isField (tree (tableOf t) n)
+  pub fields : (n : ℕ) → n < t .n → leb fieldForms (form (word ws n)) ≡ isField (tree (tableOf t) n)
   pub rest : (n : ℕ) → t .n ≤ n → word ws n ≡ 0
   pub formed : AllFormed ws
-  pub params : (n : ℕ) → n < nodes → form (word ws n) ≡ 1 → item (word ws n) < 4
+  pub params : (n : ℕ) → n < nodeLimit → form (word ws n) ≡ parameterForm → item (word ws n) < 4
   pub place : lowest (offending (sortOffends (tableOf t) (t .main)) (length (tableOf t .nodes))) ≡ found r
-  pub most : r ≤ nodes
-  pub sorted : r ≡ nodes → (n : ℕ) → n < nodes → Sorted ws n
+  pub most : r ≤ nodeLimit
+  pub sorted : r ≡ nodeLimit → (n : ℕ) → n < nodeLimit → Sorted ws n

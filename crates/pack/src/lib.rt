@@ -11,38 +11,31 @@ use sorts::lower_field;
 use sorts::lowest_field;
 ghost use mathlib.Core.Path.{_≡_};
 ghost use lib.ListN.{length, replicate};
-ghost use Rattle.operands.specs.Formed.{nodes};
+ghost use Rattle.program.specs.Table.{nodeLimit};
 ghost use Rattle.load.specs.Loads.{Good};
 ghost use Rattle.pack.specs.Packs.{kindOf, itemOf, Column, Packs};
 
-const NODES: usize = 256;
-
-// The answer where no node offends.
-const NONE: u16 = NODES as u16;
-
-const OPERATOR: u8 = 3;
-
-fn clear(ws: &mut [u64; NODES])
-    requires { ⌜ length (now ws) ≡ nodes ⌝ }
-    ensures { λ r. ⌜ now (ws .exit) ≡ replicate nodes 0 ⌝ }
+fn clear(ws: &mut [u64; layout::NODES])
+    requires { ⌜ length (now ws) ≡ nodeLimit ⌝ }
+    ensures { λ r. ⌜ now (ws .exit) ≡ replicate nodeLimit 0 ⌝ }
 {
-    *ws = [0; NODES];
+    *ws = [0; layout::NODES];
 }
 
 // The words, kinds and items of a table, and the lowest node whose sort is broken.
 pub fn pack(
     t: load::Table,
-    ws: &mut [u64; NODES],
-    kinds: &mut [u8; NODES],
-    items: &mut [u8; NODES],
+    ws: &mut [u64; layout::NODES],
+    kinds: &mut [u8; layout::NODES],
+    items: &mut [u8; layout::NODES],
 ) -> u16
-    requires { ⌜ Good t × (length (now ws) ≡ nodes) × (length (now kinds) ≡ nodes) × (length (now items) ≡ nodes) ⌝ }
+    requires { ⌜ Good t × (length (now ws) ≡ nodeLimit) × (length (now kinds) ≡ nodeLimit) × (length (now items) ≡ nodeLimit) ⌝ }
     ensures { λ r. ⌜ Packs t (now (ws .exit)) r × Column kindOf t (now (kinds .exit)) (t .n) × Column itemOf t (now (items .exit)) (t .n) ⌝ }
 {
     clear(ws);
     let bodies = t.bodies;
     let n = t.n;
-    let mut r = NONE;
+    let mut r = layout::NO_NODE;
     let mut i: usize = 0;
     while i < n {
         let x = t.nodes[i];
@@ -52,7 +45,7 @@ pub fn pack(
         // a node without children and an operator have no sort to break
         if x.kids == 0 {
             ws[i] = leaf_word(x, body);
-        } else if x.kind == OPERATOR {
+        } else if x.kind == shapes::OPERATOR {
             ws[i] = operator_word(x, body, either(is_field(ws, x.a), is_field(ws, x.b)));
         } else {
             let s = flags_of(ws, x);

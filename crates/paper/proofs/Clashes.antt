@@ -1,15 +1,14 @@
 -- Each clause of the clash list is needed, by computation.
 use mathlib.Core.Path.{_≡_, refl, sym, ap, _∙_}
 use mathlib.Core.Bool.{true, false, true≢false}
-use mathlib.Core.List.{List, [], _∷_, _++_}
-use Prim.Native.Nat.{ℕ, _*_}
+use mathlib.Core.List.{List, _++_}
+use Prim.Native.Nat.{ℕ}
 use lib.ListN.{getD, take, drop, replicate}
 use lib.IntN.{ℤ, pos, negsuc}
-use lib.Dec.{eqb}
 use borrow.Author.Tests.{eq-eqb}
 use Rattle.number.specs.Number.{eqZ, mark}
 use Rattle.program.specs.Check.{check, mainOf}
-use Rattle.network.specs.Network.{copies, fresh, heardSound, pendingSound, cellSound, firstNot, lowestUnsound, soundness}
+use Rattle.network.specs.Network.{fresh, heardSound, pendingSound, cellSound, firstNot, lowestUnsound, soundness}
 use Rattle.event.specs.Event.{Entry, entries, readList}
 use Rattle.event.specs.Step.{pendingTo, heardFrom, sensorsOf}
 use Rattle.event.specs.Calls.{room, Result, performed}

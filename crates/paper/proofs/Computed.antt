@@ -1,7 +1,6 @@
 -- What a run computes with: a proof that says `unfolding computed` opens all of it, but for the soundness of networks, which takes seconds.
 use mathlib.Core.List.{List}
 use Prim.Native.Nat.{ℕ}
-use lib.IntN.{ℤ}
 use Rattle.number.specs.Number.{operatorOf, brought, plus, minus, times, over, result, faults}
 use Rattle.wire.specs.Wire.{bigFrom, fieldsIn, fieldsOf}
 use Rattle.field.specs.Field.{from, pointwise, faultsIn}
@@ -16,5 +15,7 @@ use Rattle.event.specs.Step.{digitSet, refusal, plan}
 use Rattle.event.specs.Calls.{performed}
 
 unfoldable pub computed : List ℕ → List ℕ
-unfolding operatorOf brought plus minus times over result faults bigFrom fieldsIn fieldsOf from pointwise faultsIn firstOf among size valuesIn picked allNumbers bodies beyond takenBy outside unnamed entryOf loadFrom load treeOf grown trees isField sortBroken misread spatial cost lowest offending sortOffends misreadIn called useOffends treeRows check itemsBytes programBytes copies fresh operated folded sensed heardIn rangeIn reps erased eval round message joined after fired readAs readFrom readList readOne digitSet refusal plan performed
+unfolding operatorOf brought plus minus times over result faults bigFrom fieldsIn fieldsOf from pointwise faultsIn firstOf among size valuesIn picked allNumbers bodies beyond takenBy
+    outside unnamed entryOf loadFrom load treeOf grown trees isField sortBroken misread spatial cost lowest offending sortOffends misreadIn called useOffends treeRows check itemsBytes
+    programBytes copies fresh operated folded sensed heardIn rangeIn reps erased eval round message joined after fired readAs readFrom readList readOne digitSet refusal plan performed
 computed s = s

@@ -1,7 +1,6 @@
 -- The networks of the runs are sound, by computation.
 use mathlib.Core.Path.{_≡_, refl}
-use Prim.Native.Nat.{ℕ}
-use Rattle.network.specs.Network.{copies, fresh, heardSound, pendingSound, cellSound, firstNot, lowestUnsound, soundness}
+use Rattle.network.specs.Network.{fresh, heardSound, pendingSound, cellSound, firstNot, lowestUnsound, soundness}
 use Rattle.paper.specs.Programs.{neighbours, unranged, heardTwo}
 
 pub fresh-sound : soundness fresh ≡ (0, 0)

@@ -1,6 +1,6 @@
 -- 01's runs on paper, by computation.
 use mathlib.Core.Path.{_≡_, refl, ap}
-use mathlib.Core.List.{List, [], _∷_, _++_}
+use mathlib.Core.List.{List, _++_}
 use Prim.Native.Nat.{ℕ, _*_}
 use lib.ListN.{replicate}
 use lib.IntN.{ℤ}
@@ -10,10 +10,10 @@ use Rattle.network.specs.Cells.{row}
 use Rattle.network.specs.Network.{fresh, soundness}
 use Rattle.event.specs.Event.{Entry, entries, readList}
 use Rattle.event.specs.Step.{pendingTo}
-use Rattle.event.specs.Calls.{room, Result, run, performed}
+use Rattle.event.specs.Calls.{room, Result, performed}
 use Rattle.event.proofs.Passed.{run-performed}
-use Rattle.paper.specs.Programs.{counter, lamp, distanceTo, conditionTwo, foldMore, fires, delivers, links, signals, neighbours, unranged, heardTwo}
-use Rattle.paper.specs.Paper.{Paper, ran, value, code}
+use Rattle.paper.specs.Programs.{counter, lamp, distanceTo, conditionTwo, foldMore, fires, delivers, signals, neighbours, unranged, heardTwo}
+use Rattle.paper.specs.Paper.{Paper, ran}
 use Rattle.paper.proofs.Computed.{computed}
 use Rattle.paper.proofs.Fresh.{fresh-sound, neighbours-sound, unranged-sound, heardTwo-sound}
 

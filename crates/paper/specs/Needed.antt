@@ -6,7 +6,6 @@ use mathlib.Core.List.{List, [], _∷_, _++_}
 use Prim.Native.Nat.{ℕ}
 use lib.ListN.{take, drop}
 use lib.IntN.{ℤ, pos}
-use Rattle.number.specs.Number.{mark}
 use Rattle.program.specs.Check.{check}
 use Rattle.network.specs.Cells.{write}
 use Rattle.network.specs.Network.{fresh, soundness}

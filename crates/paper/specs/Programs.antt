@@ -3,7 +3,6 @@ use mathlib.Core.List.{List, [], _∷_, _++_}
 use Prim.Native.Nat.{ℕ, _+_}
 use lib.IntN.{ℤ, pos}
 use Rattle.number.specs.Number.{inf}
-use Rattle.program.specs.Table.{Node}
 use Rattle.program.specs.Conditions.{Part, node, define, programBytes}
 use Rattle.network.specs.Cells.{write}
 use Rattle.network.specs.Network.{fresh, base}

@@ -12,20 +12,22 @@ use borrow.Author.Tests.{leb-true}
 use Rattle.order.specs.Order.{lastNet, answers}
 use Rattle.program.specs.Tree.{Expr}
 use Rattle.network.specs.Cells.{store}
+use Rattle.network.specs.Network.{networkSize}
 use Rattle.event.specs.Event.{Event, fire, Entry, Read, entries, refusedAt, orNone, eventOf, readAs, readList, entriesOf, listVerdict}
 use Rattle.event.specs.Step.{step}
-use Rattle.event.specs.Calls.{flat, performed}
-use Rattle.reader.specs.declared.Field.the-variants.{Whole, Cut}
-use Rattle.reader.specs.Field.{fieldAt}
+use Rattle.event.specs.Calls.{answerWidth, flat, performed}
+use Rattle.wire_reader.specs.declared.Field.the-variants.{Whole, Cut}
+use Rattle.wire_reader.specs.Field.{fieldAt}
 use Rattle.effects.specs.declared.Answer.{Answer}
-use Rattle.effects.specs.Does.{Does, Lit}
+use Rattle.effects.specs.Does.{Does, Lit, Idle}
 use Rattle.network.proofs.Stores.{nothing-yet, store-cons}
 use Rattle.effects.proofs.Lit.{lit-kept}
+use Rattle.effects.proofs.Idle.{idle-kept}
 use Rattle.fire.specs.Fires.{Fires}
 use Rattle.lists.specs.declared.Event as coded
 use Rattle.lists.specs.Listed.{asRead}
 use Rattle.lists.proofs.Left.{Left, Next, left-begin, left-end, left-next, never-cut}
-use Rattle.perform.specs.Performs.{meant, Acts, Passed, Performs}
+use Rattle.perform.specs.Performs.{meant, Acts, Tested, Performs}
 
 -- ---- an event by its own name
 module _ {main : Expr} {n : List ℤ} {c : Event} {r : Answer} {n′ : List ℤ} where
@@ -48,31 +50,33 @@ has-room false q = let z : _≡_ {A = ℕ} 13 0 = ap (λ p. p .0) q in absurd (o
 pub record Doing (main : Expr) (s : List ℕ) (n₀ space₀ n space : List ℤ) (at k : ℕ) : Type 0 where
   pub rest : List Entry
   pub left : Left s at k rest
-  pub whole : length n ≡ 8464
+  pub whole : length n ≡ networkSize
+  pub idle : Idle n
   pub lit : Lit n
   pub wide : length space ≡ length space₀
-  pub enough : 2 * k + 2 * length rest ≤ length space
+  pub enough : answerWidth * k + answerWidth * length rest ≤ length space
   pub last : lastNet (step main) n₀ (entriesOf (readList s)) ≡ lastNet (step main) n rest
-  pub cells : store space₀ 0 (flat (answers (step main) n₀ (entriesOf (readList s)))) ≡ store space (2 * k) (flat (answers (step main) n rest))
+  pub cells : store space₀ 0 (flat (answers (step main) n₀ (entriesOf (readList s)))) ≡ store space (answerWidth * k) (flat (answers (step main) n rest))
 
-pub begin : {main : Expr} {ws us : List ℕ} {m : ℕ} {n : List ℤ} {s : List ℕ} {space : List ℤ} → Passed ws us m n s space → Doing main s n space n space 0 0
+pub begin : {main : Expr} {ws us : List ℕ} {m : ℕ} {n : List ℤ} {s : List ℕ} {space : List ℤ} → Tested ws us m n s space → Doing main s n space n space 0 0
 begin {main} {ws} {us} {m} {n} {s} {space} p =
     record {
       rest = entriesOf (readList s);
       left = left-begin s (entriesOf (readList s)) (all-read (readList s) (p .read));
       whole = p .ready .whole;
+      idle = p .ready .idle;
       lit = p .lit;
       wide = refl;
-      enough = omega (arith, leb-true (2 * length (entriesOf (readList s))) (length space) (has-room (leb (2 * length (entriesOf (readList s))) (length space)) (p .fits)));
+      enough = omega (arith, leb-true (answerWidth * length (entriesOf (readList s))) (length space) (has-room (leb (answerWidth * length (entriesOf (readList s))) (length space)) (p .fits)));
       last = refl;
       cells = refl;
     }
 
 -- an answer stored, and those after it
-two-cells : (l : List ℤ) (k : ℕ) (a b : ℤ) (vs : List ℤ) → store l (2 * k) (a ∷ b ∷ vs) ≡ store (set (set l (2 * k) a) (2 * k + 1) b) (2 * (k + 1)) vs
+two-cells : (l : List ℤ) (k : ℕ) (a b : ℤ) (vs : List ℤ) → store l (answerWidth * k) (a ∷ b ∷ vs) ≡ store (set (set l (answerWidth * k) a) (answerWidth * k + 1) b) (answerWidth * (k + 1)) vs
 two-cells l k a b vs =
-    let e : 2 * (k + 1) ≡ 2 * k + 1 + 1 = omega arith in
-    sym (rw e (store-cons (set l (2 * k) a) (2 * k + 1) b vs) ∙ store-cons l (2 * k) a (b ∷ vs))
+    let e : answerWidth * (k + 1) ≡ answerWidth * k + 1 + 1 = omega arith in
+    sym (rw e (store-cons (set l (answerWidth * k) a) (answerWidth * k + 1) b vs) ∙ store-cons l (answerWidth * k) a (b ∷ vs))
 
 module _ {main : Expr} {s : List ℕ} {n₀ space₀ n space : List ℤ} {at k : ℕ} (g : Doing main s n₀ space₀ n space at k) where
   pub end-turn : length s ≤ at → Performs main n₀ (entriesOf (readList s)) space₀ n space
@@ -81,7 +85,7 @@ module _ {main : Expr} {s : List ℕ} {n₀ space₀ n space : List ℤ} {at k :
       let e : g .rest ≡ [] = left-end s at k (g .rest) (g .left) h in
       record {
         network = sym (g .last ∙ ap (lastNet (step main) n) e);
-        answers = sym (g .cells ∙ rw e (sym (nothing-yet space (2 * k))));
+        answers = sym (g .cells ∙ rw e (sym (nothing-yet space (answerWidth * k))));
       }
 
   pub not-cut : fieldAt s at ≡ Cut → ⊥
@@ -95,11 +99,11 @@ module _ {main : Expr} {s : List ℕ} {n₀ space₀ n space : List ℤ} {at k :
     fewer : length (g .rest) ≡ suc (length (ahead .rest))
     fewer = ap length (ahead .is)
 
-    pub has-cells : 2 * k + 2 ≤ length space
+    pub has-cells : answerWidth * k + answerWidth ≤ length space
     has-cells = omega (arith, fewer, g .enough)
 
     pub next-turn : (c : coded.Event) (r : Answer) (n′ : List ℤ) → length n′ ≡ length n → asRead c ≡ readAs tag (take len (drop start s)) → Acts main n (meant c) r n′
-        → Doing main s n₀ space₀ n′ (set (set space (2 * k) (r .code)) (2 * k + 1) (r .value)) next (k + 1)
+        → Doing main s n₀ space₀ n′ (set (set space (answerWidth * k) (r .code)) (answerWidth * k + 1) (r .value)) next (k + 1)
     next-turn c r n′ q o a =
         let x = ahead in
         let y : Entry = record { tag = tag; body = take len (drop start s) } in
@@ -110,12 +114,13 @@ module _ {main : Expr} {s : List ℕ} {n₀ space₀ n space : List ℤ} {at k :
           rest = x .rest;
           left = rw (add-one k) (x .left);
           whole = q ∙ g .whole;
+          idle = rw d (idle-kept main n (eventOf y) (g .whole) (g .idle));
           lit = rw d (lit-kept main n (eventOf y) (g .whole) (g .lit));
           wide = simp length-set (g .wide);
           enough = simp length-set (omega (arith, fewer, g .enough));
           last = g .last ∙ (ap (lastNet (step main) n) (x .is) ∙ ap (λ (m : List ℤ). lastNet (step main) m (x .rest)) (sym d));
           cells =
               g .cells
-              ∙ (ap (λ (l : List Entry). store space (2 * k) (flat (answers (step main) n l))) (x .is)
+              ∙ (ap (λ (l : List Entry). store space (answerWidth * k) (flat (answers (step main) n l))) (x .is)
               ∙ (rw (← d, ← v) (two-cells space k (r .code) (r .value) (flat (answers (step main) n′ (x .rest))))));
         }

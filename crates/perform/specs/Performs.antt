@@ -23,7 +23,7 @@ pub record Acts (main : Expr) (n : List ℤ) (e : Event) (r : Answer) (n′ : Li
   pub answer : answerOf r ≡ doEvent main n e .1
 
 -- all that is tested before: a sound table, a sound network, a list that was read, and room for its answers
-pub record Passed (ws us : List ℕ) (main : ℕ) (n : List ℤ) (s : List ℕ) (space : List ℤ) : Type 0 where
+pub record Tested (ws us : List ℕ) (main : ℕ) (n : List ℤ) (s : List ℕ) (space : List ℤ) : Type 0 where
   pub ready : Ready ws us main n
   pub lit : Lit n
   pub read : listVerdict (readList s) ≡ (0, 0)

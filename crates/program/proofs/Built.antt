@@ -5,19 +5,19 @@ use mathlib.Core.List.{List, [], _∷_, _++_, List·Memᴰ}
 use Prim.Native.Nat.{ℕ, zero, suc, _+_, _≤_, _<_}
 use native.Mathlib.Omega.{arith}
 use lib.ListN.{length, getD, length-append}
-use Rattle.program.specs.Table.{Item, kindCount, items, Node, Definition, Table, allNumbers, named, bodies, definitionAt}
-use Rattle.program.specs.Conditions.{Part, node, define, nodesOf, definitionsOf, tableOf, Given, InRange, times}
-use Rattle.program.proofs.Names.{Fresh, times-append}
+use Rattle.program.specs.Table.{Item, kindCount, nodeLimit, definitionLimit, items, Node, Definition, Table, allNumbers, named, bodies, definitionAt}
+use Rattle.program.specs.Conditions.{Part, node, define, nodesOf, definitionsOf, tableOf, Given, InRange, howOften}
+use Rattle.program.proofs.Names.{Fresh, howOften-append}
 use Rattle.program.proofs.Steps.{grow, children, only, Fits, Ends, Steps}
 use Rattle.program.proofs.Bodied.{Bodied, bodied-leads}
 use Rattle.program.proofs.Once.{carried, once, adds-names, adds-numbers}
 use Rattle.program.proofs.Splits.{Splits, splits, node-part, definition-part, same-definition, whole-length, fits-at, ends-at}
 
-few-nodes : (t : Table) (p : Part) → Fits t p → length (t .nodes) ≤ 256 → length (grow t p .nodes) ≤ 256
+few-nodes : (t : Table) (p : Part) → Fits t p → length (t .nodes) ≤ nodeLimit → length (grow t p .nodes) ≤ nodeLimit
 few-nodes t (node x) f h = omega (arith, f .own .room, length-append (t .nodes) (x ∷ []))
 few-nodes t (define d) f h = h
 
-few-definitions : (t : Table) (p : Part) → Fits t p → length (t .definitions) ≤ 32 → length (grow t p .definitions) ≤ 32
+few-definitions : (t : Table) (p : Part) → Fits t p → length (t .definitions) ≤ definitionLimit → length (grow t p .definitions) ≤ definitionLimit
 few-definitions t (node x) f h = h
 few-definitions t (define d) f h = omega (arith, f .own .room, length-append (t .definitions) (d ∷ []))
 
@@ -38,13 +38,13 @@ module _ (ps : List Part) (main : ℕ) (st : Steps (tableOf []) ps main) where
   node-own : (x : Node) (m : List·Memᴰ x (nodesOf ps)) → Fits (tableOf (node-split x m .before)) (node x)
   node-own x m = let r = node-split x m in fits (r .before) (r .after) (node x) (r .same)
 
-  pub built-few : length (nodesOf ps) ≤ 256
+  pub built-few : length (nodesOf ps) ≤ nodeLimit
   unfolding nodesOf definitionsOf
-  built-few = carried (λ t. length (t .nodes) ≤ 256) few-nodes ps main (tableOf []) st (omega arith)
+  built-few = carried (λ t. length (t .nodes) ≤ nodeLimit) few-nodes ps main (tableOf []) st (omega arith)
 
-  pub built-few-definitions : length (definitionsOf ps) ≤ 32
+  pub built-few-definitions : length (definitionsOf ps) ≤ definitionLimit
   unfolding nodesOf definitionsOf
-  built-few-definitions = carried (λ t. length (t .definitions) ≤ 32) few-definitions ps main (tableOf []) st (omega arith)
+  built-few-definitions = carried (λ t. length (t .definitions) ≤ definitionLimit) few-definitions ps main (tableOf []) st (omega arith)
 
   pub built-known : (x : Node) → List·Memᴰ x (nodesOf ps) → x .kind < kindCount
   built-known x m = node-own x m .own .known
@@ -81,19 +81,19 @@ module _ (ps : List Part) (main : ℕ) (st : Steps (tableOf []) ps main) where
   built-main = end .given
 
   -- each node is named at least once at the end, and at most once since no step named it again
-  pub built-named : (k : ℕ) → k < length (nodesOf ps) → times k (main ∷ named (tableOf ps)) ≡ 1
-  unfolding nodesOf definitionsOf allNumbers bodies times
-  built-named k h = go (times k (main ∷ [])) refl
+  pub built-named : (k : ℕ) → k < length (nodesOf ps) → howOften k (main ∷ named (tableOf ps)) ≡ 1
+  unfolding nodesOf definitionsOf allNumbers bodies howOften
+  built-named k h = go (howOften k (main ∷ [])) refl
     where
-      few : times k (named (tableOf ps)) ≤ 1
+      few : howOften k (named (tableOf ps)) ≤ 1
       few = once named children adds-names (λ t p f. f .fresh) ps main (tableOf []) st (λ j. omega arith) k
 
-      go : (n : ℕ) → times k (main ∷ []) ≡ n → times k (main ∷ named (tableOf ps)) ≡ 1
-      go zero q = omega (arith, end .all k h, few, times-append k (main ∷ []) (named (tableOf ps)))
-      go (suc n) q = omega (arith, end .all k h, end .fresh k (omega arith), times-append k (main ∷ []) (named (tableOf ps)))
+      go : (n : ℕ) → howOften k (main ∷ []) ≡ n → howOften k (main ∷ named (tableOf ps)) ≡ 1
+      go zero q = omega (arith, end .all k h, few, howOften-append k (main ∷ []) (named (tableOf ps)))
+      go (suc n) q = omega (arith, end .all k h, end .fresh k (omega arith), howOften-append k (main ∷ []) (named (tableOf ps)))
 
   -- the same of slots and of variables that reps keep
   pub built-numbers : (j : Item) → ((t : Table) (p : Part) → Fits t p → Fresh (allNumbers j (t .nodes)) (only j p))
-      → (i : ℕ) → times i (allNumbers j (nodesOf ps)) ≤ 1
-  unfolding nodesOf definitionsOf allNumbers times
+      → (i : ℕ) → howOften i (allNumbers j (nodesOf ps)) ≤ 1
+  unfolding nodesOf definitionsOf allNumbers howOften
   built-numbers j f = once (λ t. allNumbers j (t .nodes)) (only j) (adds-numbers j) f ps main (tableOf []) st (λ k. omega arith)

@@ -7,10 +7,10 @@ use native.Mathlib.Omega.{arith}
 use lib.ListN.{length, getD}
 use borrow.Author.Tests.{eqb-true, leb-false, lt-leb, ltb-false, le-ltb, not-false}
 use Rattle.wire.specs.Wire.{Fields, end}
-use Rattle.program.specs.Table.{slot, keeps, Definition, Table, allNumbers, named, definitionRows, mainRows, unnamed, isEnd, Rows}
+use Rattle.program.specs.Table.{definitionLimit, slot, keeps, Definition, Table, allNumbers, named, definitionRows, mainRows, unnamed, isEnd, Rows}
 use Rattle.program.specs.Conditions.{define}
 use Rattle.program.proofs.Rows.{Clear, done, _&_, test}
-use Rattle.program.proofs.Names.{fresh-none, fresh-one, one-fresh, among-times, times-among, unnamed-among, among-unnamed}
+use Rattle.program.proofs.Names.{fresh-none, fresh-one, one-fresh, among-howOften, howOften-among, unnamed-among, among-unnamed}
 use Rattle.program.proofs.Steps.{Fits, Ends}
 
 -- a definition's body that no row refuses, and back
@@ -34,7 +34,7 @@ definition-fits t s c = record {
 
 pub fits-definition : (t : Table) (d : Definition) → Fits t (define d) → Clear (definitionRows t (d .count ∷ d .body ∷ []))
 fits-definition t d f =
-    lt-leb 32 (length (t .definitions)) (f .own .room)
+    lt-leb definitionLimit (length (t .definitions)) (f .own .room)
     & refl
     & le-ltb 4 (d .count) (f .own .count)
     & lt-leb (length (t .nodes)) (d .body) (f .given)
@@ -57,11 +57,11 @@ pub main-ends : (t : Table) (s : List ℕ) (rest : Fields) → Clear (mainRows t
 main-ends t s rest c e = record {
   given = leb-false (length (t .nodes)) (getD s 0 0) (test c 1);
   fresh = fresh-one (named t) (getD s 0 0) (test c 2);
-  all = λ k h. among-times k _ (unnamed-among (length (t .nodes)) _ (test e 1) k h);
+  all = λ k h. among-howOften k _ (unnamed-among (length (t .nodes)) _ (test e 1) k h);
 }
 
 pub ends-main : (t : Table) (main : ℕ) → Ends t main → Clear (mainRows t (main ∷ []))
 ends-main t main e = refl & lt-leb (length (t .nodes)) main (e .given) & one-fresh (named t) main (e .fresh) & done
 
 pub ends-clear : (t : Table) (main : ℕ) → Ends t main → Clear (endRows t main end)
-ends-clear t main e = refl & among-unnamed (length (t .nodes)) (main ∷ named t) (λ k h. times-among k (main ∷ named t) (e .all k h)) & done
+ends-clear t main e = refl & among-unnamed (length (t .nodes)) (main ∷ named t) (λ k h. howOften-among k (main ∷ named t) (e .all k h)) & done

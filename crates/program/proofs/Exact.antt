@@ -17,13 +17,14 @@ use Rattle.program.proofs.Tests.{known, either, neither, second, notBot
 use Rattle.program.proofs.Names.{among-mem, mem-among}
 use Rattle.program.proofs.Steps.{Steps}
 use Rattle.program.proofs.Loading.{accepted, loads, loads-steps}
-use Rattle.program.proofs.Built.{built-few, built-few-definitions, built-known, built-ranges, built-counts, built-arguments, built-given, built-bodied, built-body, built-main, built-named, built-numbers}
+use Rattle.program.proofs.Built.{built-few, built-few-definitions, built-known, built-ranges, built-counts, built-arguments, built-given, built-bodied, built-body}
+use Rattle.program.proofs.Built.{built-main, built-named, built-numbers}
 use Rattle.program.proofs.Fitting.{steps-from}
 use Rattle.program.proofs.Sorting.{Sorted, field-of, unbroken, as-number}
 use Rattle.program.proofs.Scoping.{read-scoped, scoped-read, bodies-scoped, scoped-bodies}
 use Rattle.program.proofs.Offending.{Passes, rows-pass, passes-rows}
 use Rattle.program.proofs.Growing.{tree-sorts}
-use Rattle.program.proofs.Spread.{spatial-rules, rules-spatial, not-spatial, plain}
+use Rattle.program.proofs.Spatials.{spatial-rules, rules-spatial, not-spatial, plain}
 use Rattle.program.proofs.Uses.{called-once, fold-plain, no-offence}
 
 body-mem : {d : Definition} {ds : List Definition} → List·Memᴰ d ds → List·Memᴰ (d .body) (bodies ds)

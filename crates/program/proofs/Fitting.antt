@@ -6,8 +6,8 @@ use Prim.Native.Nat.{ℕ, _+_, _≤_, _<_}
 use native.Mathlib.Omega.{arith}
 use lib.ListN.{length, getD, length-append}
 use Rattle.program.specs.Table.{Item, slot, keeps, child, Node, Definition, Table, numbers, allNumbers, named}
-use Rattle.program.specs.Conditions.{Part, node, define, nodesOf, definitionsOf, tableOf, Given, Meets, times}
-use Rattle.program.proofs.Names.{Fresh, times-append, times-among, among-mem, one}
+use Rattle.program.specs.Conditions.{Part, node, define, nodesOf, definitionsOf, tableOf, Given, Meets, howOften}
+use Rattle.program.proofs.Names.{Fresh, howOften-append, howOften-among, among-mem, one}
 use Rattle.program.proofs.Steps.{grow, joined, joined-none, joined-grow, children, only, NodeFits, DefinitionFits, Own, Fits, Ends, Steps}
 use Rattle.program.proofs.Bodied.{bodied-leads}
 use Rattle.program.proofs.Once.{fresh-once, adds-names, adds-numbers}
@@ -17,11 +17,11 @@ table-grow : (before : List Part) (p : Part) → tableOf (before ++ p ∷ []) �
 table-grow before p = split-table before (p ∷ []) refl ∙ sym (joined-grow (tableOf before) p []) ∙ joined-none (grow (tableOf before) p)
 
 -- a part names only nodes that are given
-children-given : (t : Table) (p : Part) → Given t p → (k : ℕ) → 0 < times k (children p) → k < length (t .nodes)
-children-given t (node x) g k h = g .0 k (among-mem k (numbers child x) (times-among k (numbers child x) h))
+children-given : (t : Table) (p : Part) → Given t p → (k : ℕ) → 0 < howOften k (children p) → k < length (t .nodes)
+children-given t (node x) g k h = g .0 k (among-mem k (numbers child x) (howOften-among k (numbers child x) h))
 children-given t (define d) g k h = go (one k (d .body))
   where
-    go : (times k (d .body ∷ []) ≡ 0) ⊎ (k ≡ d .body) → k < length (t .nodes)
+    go : (howOften k (d .body ∷ []) ≡ 0) ⊎ (k ≡ d .body) → k < length (t .nodes)
     go (inl z) = absurd (omega arith)
     go (inr z) = omega arith
 
@@ -34,7 +34,7 @@ module _ (ps : List Part) (main : ℕ) (m : Meets ps main) where
     whole-definitions : definitionsOf ps ≡ definitionsOf before ++ definitionsOf (p ∷ after)
     whole-definitions = ap (λ (t : Table). t .definitions) (split-table before (p ∷ after) e)
 
-    named-once : (k : ℕ) → 0 < times k (children p) → times k (named (joined (tableOf before) (p ∷ after))) ≤ 1
+    named-once : (k : ℕ) → 0 < howOften k (children p) → howOften k (named (joined (tableOf before) (p ∷ after))) ≤ 1
     named-once k h =
         let l : k < length (nodesOf ps) = omega (
           arith,
@@ -42,10 +42,10 @@ module _ (ps : List Part) (main : ℕ) (m : Meets ps main) where
           ap length whole-nodes,
           length-append (nodesOf before) (nodesOf (p ∷ after)),
         ) in
-        subst (λ (t : Table). times k (named t) ≤ 1) (split-table before (p ∷ after) e)
-        (omega (arith, m .namedOnce k l, times-append k (main ∷ []) (named (tableOf ps))))
+        subst (λ (t : Table). howOften k (named t) ≤ 1) (split-table before (p ∷ after) e)
+        (omega (arith, m .namedOnce k l, howOften-append k (main ∷ []) (named (tableOf ps))))
 
-    fresh-numbers : (j : Item) → ((i : ℕ) → times i (allNumbers j (nodesOf ps)) ≤ 1) → Fresh (allNumbers j (nodesOf before)) (only j p)
+    fresh-numbers : (j : Item) → ((i : ℕ) → howOften i (allNumbers j (nodesOf ps)) ≤ 1) → Fresh (allNumbers j (nodesOf before)) (only j p)
     fresh-numbers j f = fresh-once (λ t. allNumbers j (t .nodes)) (only j) (adds-numbers j) (tableOf before) p after (λ k h. rw whole-nodes at (f k))
 
     fits-here : Own (tableOf before) p → Fits (tableOf before) p
@@ -88,9 +88,9 @@ module _ (ps : List Part) (main : ℕ) (m : Meets ps main) where
     all = λ k h. omega (arith, m .namedOnce k h);
   }
     where
-      go : (k : ℕ) → 0 < times k (main ∷ []) → (times k (main ∷ []) ≡ 0) ⊎ (k ≡ main) → times k (named (tableOf ps)) + times k (main ∷ []) ≤ 1
+      go : (k : ℕ) → 0 < howOften k (main ∷ []) → (howOften k (main ∷ []) ≡ 0) ⊎ (k ≡ main) → howOften k (named (tableOf ps)) + howOften k (main ∷ []) ≤ 1
       go k h (inl z) = absurd (omega arith)
-      go k h (inr z) = let g = m .mainGiven in omega (arith, m .namedOnce k (omega arith), times-append k (main ∷ []) (named (tableOf ps)))
+      go k h (inr z) = let g = m .mainGiven in omega (arith, m .namedOnce k (omega arith), howOften-append k (main ∷ []) (named (tableOf ps)))
 
   own-here : (before after : List Part) (p : Part) → ps ≡ before ++ p ∷ after → Own (tableOf before) p
   own-here before after (node x) e = node-here before after x e

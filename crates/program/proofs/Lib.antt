@@ -16,7 +16,7 @@ pub mod Offending
 pub mod Sorting
 pub mod Growing
 pub mod Scoping
-pub mod Spread
+pub mod Spatials
 pub mod Uses
 pub mod Exact
 pub mod Shown

@@ -8,8 +8,17 @@ use native.Mathlib.Omega.{arith}
 use lib.Dec.{eqb, leb}
 use borrow.Author.Tests.{eqb-true, eqb-false, eq-eqb, leb-false, lt-leb, not-false}
 use Rattle.program.specs.Table.{among, beyond, takenBy, unnamed}
-use Rattle.program.specs.Conditions.{times}
+use Rattle.program.specs.Conditions.{howOften}
 use Rattle.program.proofs.Tests.{known, either, neither}
+
+pub among-append : (k : ℕ) (ms ns : List ℕ) → among k (ms ++ ns) ≡ (among k ms || among k ns)
+unfolding among
+among-append k [] ns = refl
+among-append k (m ∷ ms) ns = go (eqb k m) (among-append k ms ns)
+  where
+    go : (b : Bool) → among k (ms ++ ns) ≡ (among k ms || among k ns) → (b || among k (ms ++ ns)) ≡ ((b || among k ms) || among k ns)
+    go true e = refl
+    go false e = e
 
 pub among-mem : (k : ℕ) (ns : List ℕ) → among k ns ≡ true → List·Memᴰ k ns
 unfolding among
@@ -25,59 +34,59 @@ unfolding among
 mem-among {k} (List·Memᴰ·head {x = n} e) = rw (eq-eqb k n e)
 mem-among {k} (List·Memᴰ·tail {x = n} m) = rw (mem-among m) (or-true (eqb k n))
 
-pub times-append : (k : ℕ) (ms ns : List ℕ) → times k (ms ++ ns) ≡ times k ms + times k ns
-unfolding times
-times-append k [] ns = omega arith
-times-append k (m ∷ ms) ns = go (eqb k m) (times-append k ms ns)
+pub howOften-append : (k : ℕ) (ms ns : List ℕ) → howOften k (ms ++ ns) ≡ howOften k ms + howOften k ns
+unfolding howOften
+howOften-append k [] ns = omega arith
+howOften-append k (m ∷ ms) ns = go (eqb k m) (howOften-append k ms ns)
   where
-    go : (b : Bool) → times k (ms ++ ns) ≡ times k ms + times k ns
-        → cond b (suc (times k (ms ++ ns))) (times k (ms ++ ns)) ≡ cond b (suc (times k ms)) (times k ms) + times k ns
+    go : (b : Bool) → howOften k (ms ++ ns) ≡ howOften k ms + howOften k ns
+        → cond b (suc (howOften k (ms ++ ns))) (howOften k (ms ++ ns)) ≡ cond b (suc (howOften k ms)) (howOften k ms) + howOften k ns
     go true e = omega arith
     go false e = e
 
 -- it stands there exactly if it stands there at least once
-pub times-among : (k : ℕ) (ns : List ℕ) → 0 < times k ns → among k ns ≡ true
-unfolding times among
-times-among k [] h = absurd (omega arith)
-times-among k (n ∷ ns) h = go (eqb k n) (times-among k ns) h
+pub howOften-among : (k : ℕ) (ns : List ℕ) → 0 < howOften k ns → among k ns ≡ true
+unfolding howOften among
+howOften-among k [] h = absurd (omega arith)
+howOften-among k (n ∷ ns) h = go (eqb k n) (howOften-among k ns) h
   where
-    go : (b : Bool) → (0 < times k ns → among k ns ≡ true) → 0 < cond b (suc (times k ns)) (times k ns) → (b || among k ns) ≡ true
+    go : (b : Bool) → (0 < howOften k ns → among k ns ≡ true) → 0 < cond b (suc (howOften k ns)) (howOften k ns) → (b || among k ns) ≡ true
     go true f h = refl
     go false f h = f h
 
-pub among-times : (k : ℕ) (ns : List ℕ) → among k ns ≡ true → 0 < times k ns
-unfolding times among
-among-times k [] h = absurd (true≢false (sym h))
-among-times k (n ∷ ns) h = go (eqb k n) (among-times k ns) h
+pub among-howOften : (k : ℕ) (ns : List ℕ) → among k ns ≡ true → 0 < howOften k ns
+unfolding howOften among
+among-howOften k [] h = absurd (true≢false (sym h))
+among-howOften k (n ∷ ns) h = go (eqb k n) (among-howOften k ns) h
   where
-    go : (b : Bool) → (among k ns ≡ true → 0 < times k ns) → (b || among k ns) ≡ true → 0 < cond b (suc (times k ns)) (times k ns)
+    go : (b : Bool) → (among k ns ≡ true → 0 < howOften k ns) → (b || among k ns) ≡ true → 0 < cond b (suc (howOften k ns)) (howOften k ns)
     go true f h = omega arith
     go false f h = f h
 
-absent-times : (k : ℕ) (ns : List ℕ) → among k ns ≡ false → times k ns ≡ 0
-absent-times k ns e = go (times k ns) refl
+absent-howOften : (k : ℕ) (ns : List ℕ) → among k ns ≡ false → howOften k ns ≡ 0
+absent-howOften k ns e = go (howOften k ns) refl
   where
-    go : (n : ℕ) → times k ns ≡ n → n ≡ 0
+    go : (n : ℕ) → howOften k ns ≡ n → n ≡ 0
     go zero q = refl
-    go (suc n) q = absurd (true≢false (sym (times-among k ns (omega arith)) ∙ e))
+    go (suc n) q = absurd (true≢false (sym (howOften-among k ns (omega arith)) ∙ e))
 
-times-absent : (k : ℕ) (ns : List ℕ) → times k ns ≡ 0 → among k ns ≡ false
-times-absent k ns e = go (known (among k ns))
+howOften-absent : (k : ℕ) (ns : List ℕ) → howOften k ns ≡ 0 → among k ns ≡ false
+howOften-absent k ns e = go (known (among k ns))
   where
     go : (among k ns ≡ true) ⊎ (among k ns ≡ false) → among k ns ≡ false
-    go (inl q) = let h : 0 < times k ns = among-times k ns q in absurd (omega arith)
+    go (inl q) = let h : 0 < howOften k ns = among-howOften k ns q in absurd (omega arith)
     go (inr q) = q
 
 -- what stands in ns stands nowhere else, neither in ns nor among those taken
 abbrev pub Fresh : List ℕ → List ℕ → Type 0
-Fresh taken ns = (k : ℕ) → 0 < times k ns → times k taken + times k ns ≤ 1
+Fresh taken ns = (k : ℕ) → 0 < howOften k ns → howOften k taken + howOften k ns ≤ 1
 
-self : (n : ℕ) → times n (n ∷ []) ≡ 1
-unfolding times
+self : (n : ℕ) → howOften n (n ∷ []) ≡ 1
+unfolding howOften
 self n = rw (eq-eqb n n refl)
 
-pub one : (k n : ℕ) → (times k (n ∷ []) ≡ 0) ⊎ (k ≡ n)
-unfolding times
+pub one : (k n : ℕ) → (howOften k (n ∷ []) ≡ 0) ⊎ (k ≡ n)
+unfolding howOften
 one k n = go (eqb k n) refl
   where
     go : (b : Bool) → eqb k n ≡ b → (_≡_ {A = ℕ} (cond b 1 0) 0) ⊎ (k ≡ n)
@@ -87,26 +96,26 @@ one k n = go (eqb k n) refl
 -- none is taken exactly where all are fresh
 pub taken-fresh : (taken ns : List ℕ) → takenBy taken ns ≡ false → Fresh taken ns
 unfolding takenBy
-taken-fresh taken [] e k h = unfold times in absurd (omega arith)
+taken-fresh taken [] e k h = unfold howOften in absurd (omega arith)
 taken-fresh taken (n ∷ ns) e k h =
-    go (times k ns) refl (one k n) (taken-fresh (n ∷ taken) ns (either (among n taken) _ e .1) k) (absent-times n taken (either (among n taken) _ e .0))
+    go (howOften k ns) refl (one k n) (taken-fresh (n ∷ taken) ns (either (among n taken) _ e .1) k) (absent-howOften n taken (either (among n taken) _ e .0))
   where
-    go : (m : ℕ) → times k ns ≡ m → (times k (n ∷ []) ≡ 0) ⊎ (k ≡ n) → (0 < times k ns → times k (n ∷ taken) + times k ns ≤ 1) → times n taken ≡ 0
-        → times k taken + times k (n ∷ ns) ≤ 1
-    go (suc m) q c f a = omega (arith, f (omega arith), times-append k (n ∷ []) taken, times-append k (n ∷ []) ns)
-    go zero q (inl z) f a = absurd (omega (arith, times-append k (n ∷ []) ns))
-    go zero q (inr z) f a = omega (arith, ap (λ (i : ℕ). times i (n ∷ [])) z, self n, ap (λ (i : ℕ). times i taken) z, times-append k (n ∷ []) ns)
+    go : (m : ℕ) → howOften k ns ≡ m → (howOften k (n ∷ []) ≡ 0) ⊎ (k ≡ n) → (0 < howOften k ns → howOften k (n ∷ taken) + howOften k ns ≤ 1) → howOften n taken ≡ 0
+        → howOften k taken + howOften k (n ∷ ns) ≤ 1
+    go (suc m) q c f a = omega (arith, f (omega arith), howOften-append k (n ∷ []) taken, howOften-append k (n ∷ []) ns)
+    go zero q (inl z) f a = absurd (omega (arith, howOften-append k (n ∷ []) ns))
+    go zero q (inr z) f a = omega (arith, ap (λ (i : ℕ). howOften i (n ∷ [])) z, self n, ap (λ (i : ℕ). howOften i taken) z, howOften-append k (n ∷ []) ns)
 
 pub fresh-taken : (taken ns : List ℕ) → Fresh taken ns → takenBy taken ns ≡ false
 unfolding takenBy
 fresh-taken taken [] f = refl
 fresh-taken taken (n ∷ ns) f =
-    let t = times-append n (n ∷ []) ns in
+    let t = howOften-append n (n ∷ []) ns in
     let s = self n in
-    let z : times n taken ≡ 0 = omega (arith, f n (omega arith)) in
-    neither (times-absent n taken z)
+    let z : howOften n taken ≡ 0 = omega (arith, f n (omega arith)) in
+    neither (howOften-absent n taken z)
     (fresh-taken (n ∷ taken) ns
-    (λ k h. let u = times-append k (n ∷ []) ns in omega (arith, f k (omega arith), times-append k (n ∷ []) taken)))
+    (λ k h. let u = howOften-append k (n ∷ []) ns in omega (arith, f k (omega arith), howOften-append k (n ∷ []) taken)))
 
 pub fresh-none : (taken : List ℕ) → Fresh taken []
 unfolding takenBy

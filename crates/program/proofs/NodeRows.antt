@@ -8,7 +8,8 @@ use native.Mathlib.Omega.{arith}
 use lib.ListN.{length, getD, length-replicate}
 use borrow.Author.Tests.{eqb-true, eq-eqb, ne-eqb, leb-false, lt-leb, not-false}
 use Rattle.wire.specs.Wire.{bigFrom}
-use Rattle.program.specs.Table.{Item, slot, keeps, child, definition, itemsOf, size, valuesIn, outside, items, Node, Table, numbers, allNumbers, named, beyond, takenBy, definitionAt, isCall, nodeOf, nodeRows}
+use Rattle.program.specs.Table.{Item, nodeLimit, slot, keeps, child, definition, itemsOf, size, valuesIn, outside, items, Node, Table, numbers, allNumbers, named}
+use Rattle.program.specs.Table.{beyond, takenBy, definitionAt, isCall, nodeOf, nodeRows}
 use Rattle.program.specs.Conditions.{node, itemsBytes, Bytes}
 use Rattle.program.proofs.Tests.{either, neither, notBoth}
 use Rattle.program.proofs.Rows.{Clear, done, _&_, test}
@@ -92,7 +93,7 @@ module _ (t : Table) (y : Node) (f : Fits t (node y)) where
 
   pub fits-node : Clear (nodeRows t (y .kind) (bodyOf y))
   fits-node =
-      lt-leb 256 (length (t .nodes)) (f .own .room)
+      lt-leb nodeLimit (length (t .nodes)) (f .own .room)
       & lt-leb 13 (y .kind) (f .own .known)
       & notBoth (isCall (y .kind)) _ (λ c. ne-eqb (length (bodyOf y)) 0 (λ z. omega (arith, call c .some)))
       & notBoth (isCall (y .kind)) _ (λ c. lt-leb (length (t .definitions)) (getD (bodyOf y) 0 0) (rw (call c .first) (f .given .1 _ (call c .names))))

@@ -8,10 +8,11 @@ use Rattle.wire.specs.Wire.{bigFrom, fieldsIn, fieldsOf}
 use Rattle.program.specs.Table.{firstOf, among, size, valuesIn, picked, allNumbers, bodies, beyond, takenBy, outside, unnamed, entryOf, loadFrom, load}
 use Rattle.program.specs.Tree.{treeOf, grown, trees, isField, sortBroken, misread, spatial, cost}
 use Rattle.program.specs.Check.{lowest, offending, sortOffends, misreadIn, called, useOffends, treeRows, Verdict, check}
-use Rattle.program.specs.Conditions.{itemsBytes, programBytes, nodesOf, definitionsOf, times}
+use Rattle.program.specs.Conditions.{itemsBytes, programBytes, nodesOf, definitionsOf, howOften}
 
 unfoldable pub opened : ℕ → ℕ
-unfolding operatorOf bigFrom fieldsIn fieldsOf firstOf among size valuesIn picked allNumbers bodies beyond takenBy outside unnamed entryOf loadFrom load treeOf grown trees isField sortBroken misread spatial cost lowest offending sortOffends misreadIn called useOffends treeRows check itemsBytes programBytes nodesOf definitionsOf times
+unfolding operatorOf bigFrom fieldsIn fieldsOf firstOf among size valuesIn picked allNumbers bodies beyond takenBy outside unnamed entryOf loadFrom load treeOf grown trees isField
+    sortBroken misread spatial cost lowest offending sortOffends misreadIn called useOffends treeRows check itemsBytes programBytes nodesOf definitionsOf howOften
 opened n = n
 
 -- "one-byte tag, two-byte length (high byte first), body", of a body below 256 bytes

@@ -4,7 +4,7 @@ use mathlib.Core.List.{List, [], _∷_, _++_, map}
 use Prim.Native.Nat.{ℕ}
 use lib.ListN.{length, replicate, take}
 use Rattle.program.specs.Table.{Item, constant, operator, parameter, variable, keeps, slot, child, definition, items, picked, Node, Definition, Loaded, load}
-use Rattle.program.specs.Conditions.{Part, node, define, fieldBytes, itemBytes, itemsBytes, partBytes, programBytes, nodesOf, definitionsOf, tableOf, times}
+use Rattle.program.specs.Conditions.{Part, node, define, fieldBytes, itemBytes, itemsBytes, partBytes, programBytes, nodesOf, definitionsOf, tableOf, howOften}
 use Rattle.program.proofs.Shown.{opened}
 
 -- "one-byte tag, two-byte length (high byte first), body": no byte, one, 255, 256 and 513
@@ -75,6 +75,6 @@ unfolding opened
 loaded = refl
 
 -- how often a number stands there
-counted : map (λ k. times k (3 ∷ 0 ∷ 3 ∷ 5 ∷ 3 ∷ [])) (0 ∷ 1 ∷ 3 ∷ 5 ∷ []) ≡ 1 ∷ 0 ∷ 3 ∷ 1 ∷ []
+counted : map (λ k. howOften k (3 ∷ 0 ∷ 3 ∷ 5 ∷ 3 ∷ [])) (0 ∷ 1 ∷ 3 ∷ 5 ∷ []) ≡ 1 ∷ 0 ∷ 3 ∷ 1 ∷ []
 unfolding opened
 counted = refl

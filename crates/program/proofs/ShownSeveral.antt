@@ -68,7 +68,8 @@ taken-at-once = refl
 
 -- "a byte .. out of its range": far beyond it, and where the low bits are in range
 far-out : map (λ s. behind (node s)) (
-    (1 ∷ 255 ∷ []) ∷ (2 ∷ 32 ∷ []) ∷ (2 ∷ 255 ∷ []) ∷ (3 ∷ 10 ∷ 3 ∷ 4 ∷ []) ∷ (3 ∷ 255 ∷ 3 ∷ 4 ∷ []) ∷ (5 ∷ 32 ∷ 3 ∷ 4 ∷ []) ∷ (8 ∷ 17 ∷ 3 ∷ []) ∷ (9 ∷ 17 ∷ []) ∷ (9 ∷ 255 ∷ []) ∷ (10 ∷ 10 ∷ 3 ∷ 4 ∷ []) ∷ [])
+    (1 ∷ 255 ∷ []) ∷ (2 ∷ 32 ∷ []) ∷ (2 ∷ 255 ∷ []) ∷ (3 ∷ 10 ∷ 3 ∷ 4 ∷ []) ∷ (3 ∷ 255 ∷ 3 ∷ 4 ∷ []) ∷ (5 ∷ 32 ∷ 3 ∷ 4 ∷ []) ∷ (8 ∷ 17 ∷ 3 ∷ []) ∷ (9 ∷ 17 ∷ []) ∷ (9 ∷ 255 ∷ []) ∷
+    (10 ∷ 10 ∷ 3 ∷ 4 ∷ []) ∷ [])
     ≡ replicate 10 (3, 10)
 unfolding opened
 far-out = refl
@@ -88,8 +89,10 @@ calls = refl
 
 -- "each row over all nodes", "lowest offending node": a fold below a call, a call below a fold; an operand below a body; a parameter and a variable, either lower
 one-row : map check (
-    (number 0 ++ define 3 0 ++ number 1 ++ ranged 1 ++ node (11 ∷ 0 ∷ 1 ∷ 2 ∷ []) ++ number 0 ++ number 0 ++ keeping 0 4 5 ++ define 0 6 ++ node (12 ∷ 1 ∷ []) ++ node (12 ∷ 1 ∷ []) ++ plus 7 8 ++ plus 3 9 ++ main 10)
-    ∷ (number 0 ++ number 0 ++ keeping 0 0 1 ++ define 0 2 ++ node (12 ∷ 0 ∷ []) ++ node (12 ∷ 0 ∷ []) ++ number 0 ++ define 3 5 ++ number 0 ++ ranged 1 ++ node (11 ∷ 1 ∷ 6 ∷ 7 ∷ []) ++ plus 3 4 ++ plus 8 9 ++ main 10)
+    (number 0 ++ define 3 0 ++ number 1 ++ ranged 1 ++ node (11 ∷ 0 ∷ 1 ∷ 2 ∷ []) ++ number 0 ++ number 0 ++ keeping 0 4 5 ++ define 0 6 ++ node (12 ∷ 1 ∷ []) ++ node (12 ∷ 1 ∷ []) ++
+    plus 7 8 ++ plus 3 9 ++ main 10)
+    ∷ (number 0 ++ number 0 ++ keeping 0 0 1 ++ define 0 2 ++ node (12 ∷ 0 ∷ []) ++ node (12 ∷ 0 ∷ []) ++ number 0 ++ define 3 5 ++ number 0 ++ ranged 1 ++ node (11 ∷ 1 ∷ 6 ∷ 7 ∷ []) ++
+    plus 3 4 ++ plus 8 9 ++ main 10)
     ∷ (ranged 1 ++ node (4 ∷ 0 ∷ []) ++ ranged 2 ++ plus 1 2 ++ main 3) ∷ (par 0 ++ var ++ plus 0 1 ++ main 2) ∷ (var ++ par 0 ++ plus 0 1 ++ main 2) ∷ [])
     ≡ (9, 3) ∷ (9, 4) ∷ (7, 1) ∷ (8, 0) ∷ (8, 0) ∷ []
 unfolding opened

@@ -4,7 +4,8 @@ use Prim.Native.Nat.{ℕ}
 use lib.IntN.{pos}
 use Rattle.number.specs.Number.{add}
 use Rattle.program.specs.Tree.{Expr, nothing, constant, parameter, variable, operator, sense, rep, branch, mux, nbr, range, foldOp, foldDef, call}
-use Rattle.program.specs.Sorts.{Sort, aNumber, aField, HasSort, T-nothing, T-constant, T-parameter, T-variable, T-numbers, T-fieldLeft, T-fieldRight, T-sense, T-rep, T-branch, T-mux, T-nbr, T-range, T-foldOp, T-foldDef, T-call}
+use Rattle.program.specs.Sorts.{Sort, aNumber, aField, HasSort, T-nothing, T-constant, T-parameter, T-variable, T-numbers, T-fieldLeft, T-fieldRight, T-sense}
+use Rattle.program.specs.Sorts.{T-rep, T-branch, T-mux, T-nbr, T-range, T-foldOp, T-foldDef, T-call}
 
 -- a number and a field
 abbrev n : Expr

@@ -7,7 +7,8 @@ use native.Mathlib.Omega.{arith}
 use lib.IntN.{pos}
 use Rattle.number.specs.Number.{add}
 use Rattle.program.specs.Tree.{Expr, nothing, constant, parameter, variable, operator, sense, rep, branch, mux, nbr, range, foldOp, foldDef, call}
-use Rattle.program.specs.Spatial.{Spatial, X-rep, X-nbr, X-range, X-called, X-left, X-right, X-sense, X-ifCondition, X-ifThen, X-ifElse, X-muxCondition, X-muxThen, X-muxElse, X-foldInitial, X-foldField, X-foldByInitial, X-foldByField, X-first, X-second, X-third, X-fourth}
+use Rattle.program.specs.Spatial.{Spatial, X-rep, X-nbr, X-range, X-called, X-left, X-right, X-sense, X-ifCondition, X-ifThen, X-ifElse, X-muxCondition, X-muxThen}
+use Rattle.program.specs.Spatial.{X-muxElse, X-foldInitial, X-foldField, X-foldByInitial, X-foldByField, X-first, X-second, X-third, X-fourth}
 use Rattle.program.specs.Scope.{Scoped, S-nothing, S-constant, S-parameter, S-variable, S-operator, S-sense, S-rep, S-branch, S-mux, S-nbr, S-range, S-foldOp, S-foldDef, S-call}
 
 abbrev n : Expr

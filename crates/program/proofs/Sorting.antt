@@ -5,7 +5,8 @@ use Prim.Native.Nat.{ℕ}
 use borrow.Author.Tests.{not-false}
 use Rattle.number.specs.Number.{Operator}
 use Rattle.program.specs.Tree.{Expr, operator, sense, rep, branch, mux, nbr, foldOp, foldDef, call, isField, sortBroken}
-use Rattle.program.specs.Sorts.{Sort, aNumber, aField, HasSort, T-nothing, T-constant, T-parameter, T-variable, T-numbers, T-fieldLeft, T-fieldRight, T-sense, T-rep, T-branch, T-mux, T-nbr, T-range, T-foldOp, T-foldDef, T-call}
+use Rattle.program.specs.Sorts.{Sort, aNumber, aField, HasSort, T-nothing, T-constant, T-parameter, T-variable, T-numbers, T-fieldLeft, T-fieldRight, T-sense}
+use Rattle.program.specs.Sorts.{T-rep, T-branch, T-mux, T-nbr, T-range, T-foldOp, T-foldDef, T-call}
 use Rattle.program.proofs.Tests.{either, neither}
 
 abbrev pub isIt : Sort → Bool

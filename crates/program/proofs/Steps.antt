@@ -4,7 +4,7 @@ use mathlib.Core.List.{List, [], _∷_, _++_, append-assoc, append-nil}
 use Prim.Native.Nat.{ℕ, _+_, _≤_, _<_}
 use lib.ListN.{length, getD}
 use Rattle.program.specs.Table.{Item, slot, keeps, child, kindCount, items, Node, Definition, Table, numbers, allNumbers, named, definitionAt, withNode}
-use Rattle.program.specs.Conditions.{Part, node, define, nodesOf, definitionsOf, Given, InRange, times}
+use Rattle.program.specs.Conditions.{Part, node, define, nodesOf, definitionsOf, Given, InRange, howOften}
 use Rattle.program.proofs.Names.{Fresh}
 
 abbrev pub grow : Table → Part → Table
@@ -62,7 +62,7 @@ pub record Fits (t : Table) (p : Part) : Type 0 where
 pub record Ends (t : Table) (main : ℕ) : Type 0 where
   pub given : main < length (t .nodes)
   pub fresh : Fresh (named t) (main ∷ [])
-  pub all : (k : ℕ) → k < length (t .nodes) → 0 < times k (main ∷ named t)
+  pub all : (k : ℕ) → k < length (t .nodes) → 0 < howOften k (main ∷ named t)
 
 abbrev pub Steps : Table → List Part → ℕ → Type 0
 Steps t [] main = Ends t main

@@ -39,33 +39,33 @@ called-find d (x ∷ xs) e = go (isCall (x .kind)) (eqb (value x) d) refl refl e
     go false b p q e f = let r = f e in (suc (r .0), omega arith, r .2, r .3)
 
 module _ (t : Table) where
-  abbrev spread : ℕ → Bool
-  spread d = spatial (tree t (definitionAt t d .body))
+  abbrev isSpatial : ℕ → Bool
+  isSpatial d = spatial (tree t (definitionAt t d .body))
 
   -- the two tests of a node's use
   abbrev repeats : Node → ℕ → Bool
-  repeats x n = isCall (x .kind) && (spread (value x) && called (value x) (take n (t .nodes)))
+  repeats x n = isCall (x .kind) && (isSpatial (value x) && called (value x) (take n (t .nodes)))
 
   abbrev misfolds : Node → Bool
-  misfolds x = eqb (x .kind) 11 && (spread (value x) || not (eqb (definitionAt t (value x) .count) 2))
+  misfolds x = eqb (x .kind) 11 && (isSpatial (value x) || not (eqb (definitionAt t (value x) .count) 2))
 
   uses : (n : ℕ) → useOffends t n ≡ false → (repeats (nodeAt t n) n ≡ false) × (misfolds (nodeAt t n) ≡ false)
   unfolding useOffends
   uses n q = either (repeats (nodeAt t n) n) (misfolds (nodeAt t n)) q
 
   -- a node that passes calls no spatial definition that one before it calls
-  no-earlier : (m n d : ℕ) → m < n → n < length (t .nodes) → useOffends t n ≡ false → Calls t m d → Calls t n d → spread d ≡ true → ⊥
+  no-earlier : (m n d : ℕ) → m < n → n < length (t .nodes) → useOffends t n ≡ false → Calls t m d → Calls t n d → isSpatial d ≡ true → ⊥
   no-earlier m n d h l q a b s =
       let x : Node = nodeAt t n in
       let g = getD-take n (t .nodes) m noNode h in
       let c : called d (take n (t .nodes)) ≡ true =
       called-true d (take n (t .nodes)) m (omega (arith, length-take-le n (t .nodes) (omega arith))) (rw g (a .0)) (rw g (a .1)) in
-      let o = second (isCall (x .kind)) (spread (value x) && called (value x) (take n (t .nodes))) (uses n q .0) (eq-eqb _ 12 (b .0)) in
-      let r : called (value x) (take n (t .nodes)) ≡ false = second _ _ o (subst (λ (k : ℕ). spread k ≡ true) (sym (b .1)) s) in
+      let o = second (isCall (x .kind)) (isSpatial (value x) && called (value x) (take n (t .nodes))) (uses n q .0) (eq-eqb _ 12 (b .0)) in
+      let r : called (value x) (take n (t .nodes)) ≡ false = second _ _ o (subst (λ (k : ℕ). isSpatial k ≡ true) (sym (b .1)) s) in
       never c (subst (λ (k : ℕ). called k (take n (t .nodes)) ≡ false) (b .1) r)
 
   pub called-once : ((n : ℕ) → n < length (t .nodes) → useOffends t n ≡ false)
-      → (m n d : ℕ) → m < length (t .nodes) → n < length (t .nodes) → Calls t m d → Calls t n d → spread d ≡ true → m ≡ n
+      → (m n d : ℕ) → m < length (t .nodes) → n < length (t .nodes) → Calls t m d → Calls t n d → isSpatial d ≡ true → m ≡ n
   called-once q m n d h l a b s = go (ltb m n) (ltb n m) refl refl
     where
       go : (x y : Bool) → ltb m n ≡ x → ltb n m ≡ y → m ≡ n
@@ -73,23 +73,23 @@ module _ (t : Table) where
       go false true e f = absurd (no-earlier n m d (ltb-true n m f) h (q m h) b a s)
       go false false e f = omega (arith, ltb-false m n e, ltb-false n m f)
 
-  pub fold-plain : (n d : ℕ) → useOffends t n ≡ false → FoldsBy t n d → (spread d ≡ false) × (definitionAt t d .count ≡ 2)
+  pub fold-plain : (n d : ℕ) → useOffends t n ≡ false → FoldsBy t n d → (isSpatial d ≡ false) × (definitionAt t d .count ≡ 2)
   fold-plain n d q (k, e) =
       let c : ℕ = value (nodeAt t n) in
-      let o = second (eqb (nodeAt t n .kind) 11) (spread c || not (eqb (definitionAt t c .count) 2)) (uses n q .1) (eq-eqb _ 11 k) in
-      let r = either (spread c) (not (eqb (definitionAt t c .count) 2)) o in
-      subst (λ (i : ℕ). (spread i ≡ false) × (definitionAt t i .count ≡ 2)) e (r .0, eqb-true _ 2 (not-false _ (r .1)))
+      let o = second (eqb (nodeAt t n .kind) 11) (isSpatial c || not (eqb (definitionAt t c .count) 2)) (uses n q .1) (eq-eqb _ 11 k) in
+      let r = either (isSpatial c) (not (eqb (definitionAt t c .count) 2)) o in
+      subst (λ (i : ℕ). (isSpatial i ≡ false) × (definitionAt t i .count ≡ 2)) e (r .0, eqb-true _ 2 (not-false _ (r .1)))
 
-  pub no-offence : ((m n d : ℕ) → m < length (t .nodes) → n < length (t .nodes) → Calls t m d → Calls t n d → spread d ≡ true → m ≡ n)
-      → ((n d : ℕ) → n < length (t .nodes) → FoldsBy t n d → (spread d ≡ false) × (definitionAt t d .count ≡ 2))
+  pub no-offence : ((m n d : ℕ) → m < length (t .nodes) → n < length (t .nodes) → Calls t m d → Calls t n d → isSpatial d ≡ true → m ≡ n)
+      → ((n d : ℕ) → n < length (t .nodes) → FoldsBy t n d → (isSpatial d ≡ false) × (definitionAt t d .count ≡ 2))
       → (n : ℕ) → n < length (t .nodes) → useOffends t n ≡ false
   unfolding useOffends
   no-offence once fold n h =
       let d : ℕ = value (nodeAt t n) in
-      neither (notBoth (isCall (nodeAt t n .kind)) _ (λ k. notBoth (spread d) _ (λ s. go k s (known (called d (take n (t .nodes)))))))
+      neither (notBoth (isCall (nodeAt t n .kind)) _ (λ k. notBoth (isSpatial d) _ (λ s. go k s (known (called d (take n (t .nodes)))))))
       (notBoth (eqb (nodeAt t n .kind) 11) _ (λ k. let f = fold n d h (eqb-true _ 11 k, refl) in neither (f .0) (ap not (eq-eqb _ 2 (f .1)))))
     where
-      go : isCall (nodeAt t n .kind) ≡ true → spread (value (nodeAt t n)) ≡ true
+      go : isCall (nodeAt t n .kind) ≡ true → isSpatial (value (nodeAt t n)) ≡ true
           → (called (value (nodeAt t n)) (take n (t .nodes)) ≡ true) ⊎ (called (value (nodeAt t n)) (take n (t .nodes)) ≡ false)
           → called (value (nodeAt t n)) (take n (t .nodes)) ≡ false
       go k s (inr e) = e

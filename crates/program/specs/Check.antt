@@ -1,12 +1,12 @@
 -- The program check: from bytes to a refusal and its place, in the order of the refusal table. Definitions only: nothing is assumed.
-use mathlib.Core.Bool.{Bool, true, false, not, cond, _&&_, _||_}
+use mathlib.Core.Bool.{Bool, false, not, cond, _&&_, _||_}
 use mathlib.Core.List.{List, [], _∷_, _++_}
 use mathlib.Core.Option.{Option, none, some}
 use Prim.Native.Nat.{ℕ, zero, suc, _+_, min}
 use lib.ListN.{length, getD, take}
 use lib.Dec.{eqb, leb, ltb}
-use Rattle.program.specs.Table.{Node, Definition, Table, Loaded, load, among, bodies, definitionAt, isCall}
-use Rattle.program.specs.Tree.{Expr, trees, tree, isField, sortBroken, misread, spatial, cost}
+use Rattle.program.specs.Table.{Node, Definition, Table, load, among, bodies, definitionAt, isCall}
+use Rattle.program.specs.Tree.{Expr, tree, isField, sortBroken, misread, spatial, cost}
 
 -- the least of them
 abbrev least : ℕ → Option ℕ → Option ℕ
@@ -47,8 +47,8 @@ unfoldable pub useOffends : Table → ℕ → Bool
 useOffends t n =
     let x : Node = nodeAt t n in
     let d : ℕ = getD (x .values) 0 0 in
-    let spread : Bool = spatial (tree t (definitionAt t d .body)) in
-    isCall (x .kind) && (spread && called d (take n (t .nodes))) || eqb (x .kind) 11 && (spread || not (eqb (definitionAt t d .count) 2))
+    let isSpatial : Bool = spatial (tree t (definitionAt t d .body)) in
+    isCall (x .kind) && (isSpatial && called d (take n (t .nodes))) || eqb (x .kind) 11 && (isSpatial || not (eqb (definitionAt t d .count) 2))
 
 -- the number of the refusal and its place, 0 and 0 where there is none
 abbrev pub Verdict : Type 0

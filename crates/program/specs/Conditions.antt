@@ -1,13 +1,14 @@
 -- What a table must meet to be accepted, each condition a statement of its own. Definitions only: nothing is assumed.
 -- `proofs/Exact.antt` proves that the check accepts exactly these tables.
 use mathlib.Core.Path.{_≡_}
-use mathlib.Core.Bool.{Bool, true, false, cond}
+use mathlib.Core.Bool.{cond}
 use mathlib.Core.List.{List, [], _∷_, _++_, List·Memᴰ}
-use Prim.Native.Nat.{ℕ, zero, suc, _+_, _/_, _%_, _≤_, _<_}
+use Prim.Native.Nat.{ℕ, suc, _+_, _/_, _%_, _≤_, _<_}
 use lib.ListN.{length, getD}
 use lib.Dec.{eqb}
-use Rattle.program.specs.Table.{Item, constant, operator, parameter, variable, keeps, slot, child, definition, kindCount, items, Node, Definition, Table, numbers, allNumbers, named, definitionAt}
-use Rattle.program.specs.Tree.{Expr, tree, cost}
+use Rattle.program.specs.Table.{Item, constant, operator, parameter, variable, keeps, slot, child, definition, kindCount, nodeLimit, definitionLimit, items, Node}
+use Rattle.program.specs.Table.{Definition, Table, numbers, allNumbers, named, definitionAt}
+use Rattle.program.specs.Tree.{tree, cost}
 use Rattle.program.specs.Check.{nodeAt}
 use Rattle.program.specs.Sorts.{Sort, aNumber, HasSort}
 use Rattle.program.specs.Scope.{Scoped}
@@ -60,9 +61,9 @@ abbrev pub tableOf : List Part → Table
 tableOf ps = record { nodes = nodesOf ps; definitions = definitionsOf ps }
 
 -- how often k stands there
-unfoldable pub times : ℕ → List ℕ → ℕ
-times k [] = 0
-times k (n ∷ ns) = cond (eqb k n) (suc (times k ns)) (times k ns)
+unfoldable pub howOften : ℕ → List ℕ → ℕ
+howOften k [] = 0
+howOften k (n ∷ ns) = cond (eqb k n) (suc (howOften k ns)) (howOften k ns)
 
 -- the range of each item: "not the mark", "Operators 0–8", "parameter p (0–3)", "variable v (0–15)", "slot 1–15"; "node and definition numbers have none"
 abbrev pub Ranged : Item → ℕ → Type 0
@@ -96,8 +97,8 @@ FoldsBy t n d = (nodeAt t n .kind ≡ 11) × (getD (nodeAt t n .values) 0 0 ≡ 
 
 pub record Meets (ps : List Part) (main : ℕ) : Type 0 where
   -- "at most 256"; "at most 32"
-  pub fewNodes : length (nodesOf ps) ≤ 256
-  pub fewDefinitions : length (definitionsOf ps) ≤ 32
+  pub fewNodes : length (nodesOf ps) ≤ nodeLimit
+  pub fewDefinitions : length (definitionsOf ps) ≤ definitionLimit
   -- a node has one of the thirteen kinds, and the kind's items, each in its range
   pub known : (x : Node) → List·Memᴰ x (nodesOf ps) → x .kind < kindCount
   pub ranges : (x : Node) → List·Memᴰ x (nodesOf ps) → InRange (items x) (x .values)
@@ -109,11 +110,11 @@ pub record Meets (ps : List Part) (main : ℕ) : Type 0 where
   pub given : (before after : List Part) (p : Part) → ps ≡ before ++ p ∷ after → Given (tableOf before) p
   pub mainGiven : main < length (nodesOf ps)
   -- "Each node is named exactly once"
-  pub namedOnce : (k : ℕ) → k < length (nodesOf ps) → times k (main ∷ named (tableOf ps)) ≡ 1
+  pub namedOnce : (k : ℕ) → k < length (nodesOf ps) → howOften k (main ∷ named (tableOf ps)) ≡ 1
   -- "each slot by one nbr or nbr-range"
-  pub slotOnce : (i : ℕ) → times i (allNumbers slot (nodesOf ps)) ≤ 1
+  pub slotOnce : (i : ℕ) → howOften i (allNumbers slot (nodesOf ps)) ≤ 1
   -- "each variable by one rep"
-  pub repOnce : (v : ℕ) → times v (allNumbers keeps (nodesOf ps)) ≤ 1
+  pub repOnce : (v : ℕ) → howOften v (allNumbers keeps (nodesOf ps)) ≤ 1
   -- every node has a sort; "Main and definition bodies are numbers."
   pub sorts : (n : ℕ) → n < length (nodesOf ps) → (k : Sort) × HasSort (tree (tableOf ps) n) k
   pub mainSort : HasSort (tree (tableOf ps) main) aNumber

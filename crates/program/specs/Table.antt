@@ -1,7 +1,7 @@
 -- The program table: what a node, a definition and the main node may hold, and the refusals 1 to 6. Definitions only: nothing is assumed.
 use mathlib.Core.Bool.{Bool, true, false, not, cond, _&&_, _||_}
 use mathlib.Core.List.{List, [], _∷_, _++_}
-use Prim.Native.Nat.{ℕ, zero, suc, _+_, _-_, _*_}
+use Prim.Native.Nat.{ℕ, zero, suc, _+_, _-_}
 use lib.ListN.{length, getD, take, drop, replicate}
 use lib.Dec.{eqb, leb, ltb}
 use Rattle.wire.specs.Wire.{Fields, end, cut, whole, big, fieldsOf}
@@ -44,6 +44,13 @@ kinds count =
 
 abbrev pub kindCount : ℕ
 kindCount = 13
+
+-- "numbered from 0 by appearance, at most 256"; "numbered from 0, at most 32"
+abbrev pub nodeLimit : ℕ
+nodeLimit = 256
+
+abbrev pub definitionLimit : ℕ
+definitionLimit = 32
 
 abbrev pub itemsOf : ℕ → ℕ → List Item
 itemsOf kind count = getD (kinds count) kind []
@@ -160,7 +167,7 @@ nodeRows t kind s =
     let is : List Item = itemsOf kind (definitionAt t (getD s 0 0) .count) in
     let x : Node = nodeOf t kind s in
     -- "257th node"
-    (leb 256 (length (t .nodes)), 2)
+    (leb nodeLimit (length (t .nodes)), 2)
     -- "unknown kind"
     ∷ (leb kindCount kind, 3)
     -- "wrong length (a call: under 2 bytes 1, unknown definition 4, then 2 + count)"
@@ -179,7 +186,7 @@ nodeRows t kind s =
 abbrev pub definitionRows : Table → List ℕ → Rows
 definitionRows t s =
     -- "33rd definition"
-    (leb 32 (length (t .definitions)), 2)
+    (leb definitionLimit (length (t .definitions)), 2)
     ∷ (not (eqb (length s) 2), 1)
     ∷ (ltb 4 (getD s 0 0), 3)
     ∷ (leb (length (t .nodes)) (getD s 1 0), 4)

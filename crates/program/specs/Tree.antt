@@ -1,9 +1,9 @@
 -- Expressions as trees, built from the table; sorts, scope, spatial, cost. Definitions only: nothing is assumed.
-use mathlib.Core.Bool.{Bool, true, false, not, cond, xor, _&&_, _||_}
+use mathlib.Core.Bool.{Bool, true, false, not, cond, _&&_, _||_}
 use mathlib.Core.List.{List, [], _∷_, _++_}
-use Prim.Native.Nat.{ℕ, zero, suc, _+_, _-_, _*_}
+use Prim.Native.Nat.{ℕ, _+_, _-_, _*_}
 use lib.ListN.{length, getD}
-use lib.Dec.{eqb, leb, ltb}
+use lib.Dec.{ltb}
 use lib.IntN.{ℤ, pos, negsuc}
 use Rattle.number.specs.Number.{Operator, operatorOf}
 use Rattle.program.specs.Table.{Node, Definition, Table, noDefinition, among}

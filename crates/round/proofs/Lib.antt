@@ -1,3 +1,4 @@
+pub mod After
 pub mod ShownCells
 pub mod ShownShortcuts
 pub mod ShownOrder

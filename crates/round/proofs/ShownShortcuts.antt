@@ -1,7 +1,6 @@
 -- Four of 01's 'shortcuts that give other networks', each ruled out by a round that computes. The fifth is about a receipt: crate event.
 use mathlib.Core.Path.{_≡_, refl}
-use mathlib.Core.List.{List, [], _∷_}
-use Prim.Native.Nat.{ℕ}
+use mathlib.Core.List.{List, _∷_}
 use lib.ListN.{replicate, set}
 use lib.IntN.{ℤ, pos}
 use Rattle.number.specs.Number.{mark, add}

@@ -2,12 +2,12 @@
 use mathlib.Core.Bool.{Bool, true, false, cond, _&&_}
 use mathlib.Core.List.{List, [], _∷_, _++_}
 use mathlib.Core.Option.{Option, none, some}
-use Prim.Native.Nat.{ℕ, zero, suc, _+_, _-_, _*_, _/_, _%_, _^_}
+use Prim.Native.Nat.{ℕ, suc, _+_, _-_, _/_, _%_, _^_}
 use lib.ListN.{getD, set, take, drop, replicate}
 use lib.Dec.{ltb}
 use lib.IntN.{ℤ, pos, negsuc}
 use Rattle.number.specs.Number.{mark, eqZ, Operator, result, faults}
-use Rattle.field.specs.Field.{devices, each, Field, everywhere, pointwise, faultsIn}
+use Rattle.field.specs.Field.{each, Field, everywhere, pointwise, faultsIn}
 use Rattle.program.specs.Tree.{Expr, nothing, constant, parameter, variable, operator, sense, rep, branch, mux, nbr, range, foldOp, foldDef, call}
 use Rattle.network.specs.Cells.{write}
 use Rattle.network.specs.Network.{sensorsAt, heardAt, pendingAt, noMessage}

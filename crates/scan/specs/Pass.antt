@@ -8,11 +8,11 @@ use lib.ListN.{getD}
 use lib.Dec.{eqb}
 use lib.IntN.{ℤ, pos}
 use Rattle.number.specs.Number.{mark}
-use Rattle.network.specs.Network.{isDistance, networkSize}
-use Rattle.rules.specs.Sound.{soundAt}
+use Rattle.network.specs.Network.{heardAt, pendingAt, isDistance, networkSize}
+use Rattle.cell_rules.specs.Sound.{soundAt}
 
--- the first m cells of a device are sound
-pub record Passed (n : List ℤ) (a m : ℕ) : Type 0 where
+-- the cells of a device below place m are sound
+pub record SoundBelow (n : List ℤ) (a m : ℕ) : Type 0 where
   pub cell : (j : ℕ) → j < m → soundAt n a j ≡ true
 
 -- the row at `at` has the cell `first`, and its slots from 1 to below k are absent
@@ -25,10 +25,10 @@ pub data Pending (n : List ℤ) (at : ℕ) : Type 0 where
   nothing : RowIs n at (pos 0) 16 → Pending n at
   message : getD n at (pos 0) ≡ pos 1 → Pending n at
 
--- k rows of the device whose cells are from `at` on: the distances, and what is pending
-pub record Rows (n : List ℤ) (at k : ℕ) : Type 0 where
-  pub distance : (b : ℕ) → b < k → isDistance (getD n (at + 17 + 16 * b) (pos 0)) ≡ true
-  pub pending : (b : ℕ) → b < k → Pending n (at + 273 + 16 * b)
+-- the distances from the first k devices, and what is pending to them, in the device whose cells are from `at` on
+pub record RowsPass (n : List ℤ) (at k : ℕ) : Type 0 where
+  pub distance : (b : ℕ) → b < k → isDistance (getD n (at + heardAt 1 + 16 * b) (pos 0)) ≡ true
+  pub pending : (b : ℕ) → b < k → Pending n (at + pendingAt 1 + 16 * b)
 
 -- the lowest unsound cell, given as the number of cells where there is none
 unfoldable pub placeOf : ℕ → Option ℕ

@@ -4,12 +4,8 @@ ghost use mathlib.Core.Bool.{true};
 ghost use Prim.Native.Nat.{_+_, _≤_, _<_};
 ghost use lib.ListN.{length};
 ghost use Rattle.verdict.specs.Pair.{pair};
-ghost use Rattle.network.specs.Network.{lowestUnsound, soundness};
-ghost use Rattle.scan.specs.Pass.{Passed, RowIs, Pending, Rows, placeOf};
-
-const CELLS: usize = 8464;
-
-const MARK: i32 = -2147483648;
+ghost use Rattle.network.specs.Network.{blockSize, networkSize, lowestUnsound, soundness};
+ghost use Rattle.scan.specs.Pass.{SoundBelow, RowIs, Pending, RowsPass, placeOf};
 
 // 0 only where x is y: a number, so that many are joined by `|` with no branch.
 fn differs(x: i32, y: i32) -> u32
@@ -28,8 +24,8 @@ fn row_is(net: &[i32], at: usize, first: i32) -> bool
 {
     let mut other: u32 = differs(net[at], first);
     let mut i: usize = 1;
-    while i < 16 {
-        other = other | differs(net[at + i], MARK);
+    while i < layout::ROW {
+        other = other | differs(net[at + i], layout::MARK);
         i += 1;
     }
     other == 0
@@ -48,15 +44,15 @@ fn pending_row(net: &[i32], at: usize) -> bool
 
 // The distances and the pending rows of the device whose cells are from `at` on, its own among them.
 fn rows_sound(net: &[i32], at: usize) -> bool
-    requires { ⌜ at + 529 ≤ length (now net) ⌝ }
-    ensures { λ r. ⌜ ((r ≡ true) → Rows (now (net .entry)) at 16) ⌝ }
+    requires { ⌜ at + blockSize ≤ length (now net) ⌝ }
+    ensures { λ r. ⌜ ((r ≡ true) → RowsPass (now (net .entry)) at 16) ⌝ }
 {
     let mut b: usize = 0;
-    while b < 16 {
-        if !rules::distance_sound(net[at + 17 + 16 * b]) {
+    while b < layout::DEVICES {
+        if !cells::distance_sound(net[at + layout::HEARD + layout::ROW * b]) {
             return false;
         }
-        if !pending_row(net, at + 273 + 16 * b) {
+        if !pending_row(net, at + layout::PENDING + layout::ROW * b) {
             return false;
         }
         b += 1;
@@ -66,40 +62,40 @@ fn rows_sound(net: &[i32], at: usize) -> bool
 
 // Whether all cells of a device are sound, without telling which is not. Only `true` is relied on.
 fn block_sound(net: &[i32], device: usize) -> bool
-    requires { ⌜ (length (now net) ≡ 8464) × (device < 16) ⌝ }
-    ensures { λ r. ⌜ ((r ≡ true) → Passed (now (net .entry)) device 529) ⌝ }
+    requires { ⌜ (length (now net) ≡ networkSize) × (device < 16) ⌝ }
+    ensures { λ r. ⌜ ((r ≡ true) → SoundBelow (now (net .entry)) device blockSize) ⌝ }
 {
-    let at = device * 529;
-    if !rules::sensors_sound(net, device) {
+    let at = device * layout::BLOCK;
+    if !cell_rules::sensors_sound(net, device) {
         return false;
     }
     if !rows_sound(net, at) {
         return false;
     }
-    if !row_is(net, at + 17 + 16 * device, MARK) {
+    if !row_is(net, at + layout::HEARD + layout::ROW * device, layout::MARK) {
         return false;
     }
-    row_is(net, at + 273 + 16 * device, 0)
+    row_is(net, at + layout::PENDING + layout::ROW * device, 0)
 }
 
 // The lowest unsound cell, or the number of cells where all are sound. The search goes into a device that the pass refused.
 fn first_unsound(net: &[i32]) -> usize
-    requires { ⌜ length (now net) ≡ 8464 ⌝ }
+    requires { ⌜ length (now net) ≡ networkSize ⌝ }
     ensures { λ r. ⌜ lowestUnsound 1 16 (now (net .entry)) ≡ placeOf r ⌝ }
 {
-    let mut bad: usize = CELLS;
-    'search: for device in 0..16 {
+    let mut bad: usize = layout::CELLS;
+    'search: for device in 0..layout::DEVICES {
         if block_sound(net, device) {
             continue 'search;
         }
-        if !rules::sensors_sound(net, device) {
-            bad = device * 529 + 16;
+        if !cell_rules::sensors_sound(net, device) {
+            bad = device * layout::BLOCK + layout::SENSORS;
             break 'search;
         }
         for row in 0..32 {
-            for slot in 0..16 {
-                if !rules::cell_sound(net, device, row, slot) {
-                    bad = device * 529 + 17 + row * 16 + slot;
+            for slot in 0..layout::ROW {
+                if !cell_rules::cell_sound(net, device, row, slot) {
+                    bad = device * layout::BLOCK + layout::HEARD + row * layout::ROW + slot;
                     break 'search;
                 }
             }
@@ -112,11 +108,11 @@ fn first_unsound(net: &[i32]) -> usize
 pub fn soundness(net: &[i32]) -> verdict::Verdict
     ensures { λ r. ⌜ pair r ≡ soundness (now (net .entry)) ⌝ }
 {
-    if net.len() != CELLS {
+    if net.len() != layout::CELLS {
         return verdict::refused(11, 0);
     }
     let bad = first_unsound(net);
-    if bad == CELLS {
+    if bad == layout::CELLS {
         return verdict::accepted();
     }
     verdict::refused(11, bad)

@@ -10,44 +10,46 @@ use lib.Seq.{drop-cons, drop-length}
 use lib.Dec.{eqb, ltb}
 use lib.Bits.{bitOr}
 use borrow.Author.Tests.{lt-ltb, le-ltb}
-use Rattle.program.specs.Table.{Table, noDefinition, definitionAt, among}
+use Rattle.program.specs.Table.{Table, noDefinition, definitionAt, among, nodeLimit}
 use Rattle.program.specs.Tree.{tree, misread}
 use Rattle.program.specs.Check.{lowest, misreadIn}
+use Rattle.bits.specs.Bits.{hasBit}
+use Rattle.bits.proofs.Bits.{no-bit, power-bit, or-bit}
+use Rattle.words.specs.Form.{parameterForm}
 use Rattle.words.specs.Word.{form, item, word}
 use Rattle.words.specs.Trees.{treeAt}
-use Rattle.operands.specs.Formed.{nodes, width, operand, part, Formed, AllFormed}
-use Rattle.masks.specs.Masks.{hasBit}
-use Rattle.masks.proofs.Bits.{no-bit, power-bit, or-bit}
-use Rattle.operands.proofs.Trees.{view}
-use Rattle.operands.proofs.Leaves.{Leaf, leaf-width}
-use Rattle.reads.specs.Reads.{Clean}
-use Rattle.reads.proofs.Misread.{ownList, keptIn, all-misread}
-use Rattle.scopes.specs.Places.{found, At}
+use Rattle.operands.specs.Formed.{width, operand, binds, reads, part, Formed, AllFormed}
+use Rattle.operands.specs.Found.{found}
+use Rattle.operands.proofs.Views.{view}
+use Rattle.operands.proofs.Leaves.{Leaf}
+use Rattle.scope_pass.specs.Reads.{Clean}
+use Rattle.scope_pass.proofs.Misread.{ownList, keptIn, all-misread}
+use Rattle.scopes.specs.Places.{At}
 use Rattle.scopes.specs.Scope.{InScope, Lowest, ownPlace, inner, Told}
 use Rattle.scopes.proofs.Places.{join}
 
-own-place : (n w count scope : ℕ) (kept : List ℕ) → n < nodes → InScope scope kept → At (ownList n w count kept) (ownPlace n w count scope)
+own-place : (n w count scope : ℕ) (kept : List ℕ) → n < nodeLimit → InScope scope kept → At (ownList n w count kept) (ownPlace n w count scope)
 unfolding lowest ownPlace
 own-place n w count scope kept h s =
-    record { is = rw (← s .bit (item w) (omega arith)) (go (eqb (form w) 1) (eqb (form w) 2) (ltb (item w) count) (hasBit (item w) scope)) }
+    record { is = rw (← s .bit (item w) (omega arith)) (go (eqb (form w) parameterForm) (reads w) (ltb (item w) count) (hasBit (item w) scope)) }
   where
-    go : (a b c d : Bool) → lowest (cond a (cond c [] (n ∷ [])) (cond b (cond d [] (n ∷ [])) [])) ≡ found (cond a (cond c nodes n) (cond b (cond d nodes n) nodes))
+    go : (a b c d : Bool) → lowest (cond a (cond c [] (n ∷ [])) (cond b (cond d [] (n ∷ [])) [])) ≡ found (cond a (cond c nodeLimit n) (cond b (cond d nodeLimit n) nodeLimit))
     go true b true d = refl
-    go true b false d = rw (lt-ltb n nodes h)
+    go true b false d = rw (lt-ltb n nodeLimit h)
     go false true c true = refl
-    go false true c false = rw (lt-ltb n nodes h)
+    go false true c false = rw (lt-ltb n nodeLimit h)
     go false false c d = refl
 
 inner-scope : {scope : ℕ} {kept : List ℕ} (w : ℕ) → InScope scope kept → InScope (inner w scope) (keptIn w kept)
 unfolding inner among
-inner-scope {scope} {kept} w s = go (eqb (form w) 5)
+inner-scope {scope} {kept} w s = go (binds w)
   where
     go : (b : Bool) → InScope (cond b (bitOr scope (2 ^ item w)) scope) (cond b (item w ∷ kept) kept)
     go false = s
     go true =
         record {
           bit = λ v l. or-bit v scope (2 ^ item w)
-              ∙ rw (power-bit (item w) v (omega arith) l, s .bit v l) (or-comm (among v kept) (eqb v (item w)));
+              ∙ rw (power-bit (item w) v (omega arith) (omega arith), s .bit v l) (or-comm (among v kept) (eqb v (item w)));
         }
 
 -- a lowest that came in last, first
@@ -67,7 +69,7 @@ first-out o a b c d best =
     assoc x y z = omega arith
 
 -- the calls of the code, put together
-pub joined : {ws : List ℕ} {n count scope x best o r0 r1 r2 r3 r : ℕ} → n < nodes → Formed ws n
+pub joined : {ws : List ℕ} {n count scope x best o r0 r1 r2 r3 r : ℕ} → n < nodeLimit → Formed ws n
     → o ≡ ownPlace n (word ws n) count scope → r0 ≡ min o best
     → Lowest count scope (part ws (word ws n) 3) r0 r1 → Lowest count scope (part ws (word ws n) 2) r1 r2
     → x ≡ inner (word ws n) scope → Lowest count x (part ws (word ws n) 1) r2 r3
@@ -95,18 +97,18 @@ module _ (ws : List ℕ) (w j : ℕ) {count scope best : ℕ} where
   unfolding misread lowest
   part-none h =
       rw (le-ltb j (width w) h)
-      record { low = max nodes best; place = λ kept s. record { is = rw (le-ltb (max nodes best) nodes (omega arith)) }; least = omega arith }
+      record { low = max nodeLimit best; place = λ kept s. record { is = rw (le-ltb (max nodeLimit best) nodeLimit (omega arith)) }; least = omega arith }
 
 -- a leaf has nothing under it
-pub walk-leaf : {ws : List ℕ} {n count scope best o r : ℕ} → n < nodes → Formed ws n → Leaf (word ws n) → o ≡ ownPlace n (word ws n) count scope
+pub walk-leaf : {ws : List ℕ} {n count scope best o r : ℕ} → n < nodeLimit → Formed ws n → Leaf (word ws n) → o ≡ ownPlace n (word ws n) count scope
     → r ≡ min o best → Lowest count scope (treeAt ws n) best r
 walk-leaf {ws} {n} h f l eo e =
-    let z : width (word ws n) ≡ 0 = leaf-width (word ws n) l in
+    let z : width (word ws n) ≡ 0 = l .narrow in
     joined h f eo e (part-none ws (word ws n) 3 (omega arith)) (part-none ws (word ws n) 2 (omega arith)) refl (part-none ws (word ws n) 1 (omega arith))
     (part-none ws (word ws n) 0 (omega arith))
 
 -- what a call of `walk` at a lower node asks
-pub asks : {ws : List ℕ} {n k o t : ℕ} → n * 2 ≡ t → n < nodes → AllFormed ws → k ≡ o → o < n → (k * 2 + 1 < t) × ((k < nodes) × AllFormed ws)
+pub asks : {ws : List ℕ} {n k o t : ℕ} → n * 2 ≡ t → n < nodeLimit → AllFormed ws → k ≡ o → o < n → (k * 2 + 1 < t) × ((k < nodeLimit) × AllFormed ws)
 asks m l f e h = (omega arith, (omega arith, f))
 
 -- ---- all trees of a table
@@ -115,7 +117,7 @@ unfolding among
 no-scope = record { bit = λ v l. no-bit v }
 
 module _ {ws counts bodies : List ℕ} {definitions main : ℕ} (t : Table) (h : Told t ws counts bodies definitions main) where
-  pub none-misread : At (misreadIn t (drop definitions (t .definitions))) nodes
+  pub none-misread : At (misreadIn t (drop definitions (t .definitions))) nodeLimit
   unfolding lowest misreadIn
   none-misread = rw (← h .defined .all, drop-length (t .definitions)) record { is = refl }
 
@@ -149,6 +151,6 @@ module _ {ws counts bodies : List ℕ} {definitions main : ℕ} (t : Table) (h :
         )
         (none-from k (suc d) (omega arith))
 
-    pub clean-trees : At (misread 0 [] (tree t main) ++ misreadIn t (t .definitions)) nodes
+    pub clean-trees : At (misread 0 [] (tree t main) ++ misreadIn t (t .definitions)) nodeLimit
     unfolding lowest
     clean-trees = record { is = rw (← h .trees main (h .given), c .root, none-from definitions 0 (omega arith)) }

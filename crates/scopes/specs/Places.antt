@@ -1,18 +1,12 @@
--- A node's number as the answer of a search, one that no node has where none is meant. And how the columns of a table stand to its definitions. Internal: no public
+-- The lowest of some nodes, and how the columns of a table stand to its definitions. Internal: no public
 -- contract cites it. Definitions only: nothing is assumed.
 use mathlib.Core.Path.{_≡_}
-use mathlib.Core.Bool.{cond}
 use mathlib.Core.List.{List}
-use mathlib.Core.Option.{Option, none, some}
 use Prim.Native.Nat.{ℕ, _<_}
 use lib.ListN.{length, getD}
-use lib.Dec.{ltb}
 use Rattle.program.specs.Table.{Table, definitionAt}
 use Rattle.program.specs.Check.{lowest}
-use Rattle.operands.specs.Formed.{nodes}
-
-abbrev pub found : ℕ → Option ℕ
-found r = cond (ltb r nodes) (some r) none
+use Rattle.operands.specs.Found.{found}
 
 -- r is the lowest of them
 pub record At (ns : List ℕ) (r : ℕ) : Type 0 where

@@ -1,29 +1,19 @@
 // The lowest node that offends: by a parameter or variable that it may not read, by its use of a definition.
-use operands::leaf;
+use operands::is;
 use operands::operand;
 use operands::width_of;
 use unpack::form_of;
 use unpack::item_of;
 ghost use mathlib.Core.Path.{_≡_};
 ghost use mathlib.Core.Bool.{false, _||_};
-ghost use mathlib.Core.List.{[], _++_};
 ghost use Prim.Native.Nat.{min, _<_, _≤_};
-ghost use lib.ListN.{length};
-ghost use Rattle.program.specs.Table.{Table, isCall};
-ghost use Rattle.program.specs.Tree.{tree, misread};
-ghost use Rattle.program.specs.Check.{lowest, offending, misreadIn, useOffends};
+ghost use Rattle.program.specs.Table.{isCall, nodeLimit};
 ghost use Rattle.words.specs.Word.{word};
 ghost use Rattle.words.specs.Trees.{treeAt};
-ghost use Rattle.operands.specs.Formed.{nodes, part as partOf, AllFormed};
-ghost use Rattle.masks.specs.Masks.{hasBit};
-ghost use Rattle.scopes.specs.Places.{found};
-ghost use Rattle.scopes.specs.Scope.{Lowest, ownPlace, inner, Told};
-ghost use Rattle.scopes.specs.Uses.{Columns, offends};
-
-const NODES: usize = 256;
-
-// The answer where no node offends.
-const NONE: u16 = NODES as u16;
+ghost use Rattle.operands.specs.Formed.{part as partOf, AllFormed};
+ghost use Rattle.bits.specs.Bits.{hasBit};
+ghost use Rattle.scopes.specs.Scope.{Lowest, ownPlace, inner, LowestMisread};
+ghost use Rattle.scopes.specs.Uses.{offends, LowestUse};
 
 fn lower(x: u16, y: u16) -> u16
     ensures { λ r. ⌜ r ≡ min x y ⌝ }
@@ -42,27 +32,26 @@ fn has_bit(v: u8, m: u16) -> bool
 fn own(n: u16, w: u64, count: u8, scope: u16) -> u16
     ensures { λ r. ⌜ r ≡ ownPlace n w count scope ⌝ }
 {
-    let k = form_of(w);
-    if k == 1 {
+    if form_of(w) == unpack::PARAMETER {
         if item_of(w) < count {
-            return NONE;
+            return layout::NO_NODE;
         }
         return n;
     }
-    if k == 2 {
+    if is(w, operands::READ) {
         if has_bit(item_of(w), scope) {
-            return NONE;
+            return layout::NO_NODE;
         }
         return n;
     }
-    NONE
+    layout::NO_NODE
 }
 
-// The scope of a rep's update: its own variable more.
+// The scope of operand 1: the variable that the node binds more.
 fn with_own(w: u64, scope: u16) -> u16
     ensures { λ r. ⌜ r ≡ inner w scope ⌝ }
 {
-    if form_of(w) == 5 {
+    if is(w, operands::BIND) {
         let one: u16 = 1;
         return scope | (one << item_of(w));
     }
@@ -71,15 +60,15 @@ fn with_own(w: u64, scope: u16) -> u16
 
 // Each of the two: the lower of `best` and the lowest node that misreads. Operand 0 comes last, as a call that is a jump; a
 // leaf is looked at where it is named.
-fn part(ws: &[u64; NODES], n: usize, j: u32, count: u8, scope: u16, best: u16) -> u16
-    requires { ⌜ (j < 4) × (n < nodes) × AllFormed (now ws) ⌝ }
+fn part(ws: &[u64; layout::NODES], n: usize, j: u32, count: u8, scope: u16, best: u16) -> u16
+    requires { ⌜ (j < 4) × (n < nodeLimit) × AllFormed (now ws) ⌝ }
     ensures { λ r. ⌜ Lowest count scope (partOf (now (ws .entry)) (word (now (ws .entry)) n) j) best r ⌝ }
 {
     let w = ws[n];
     if j < width_of(w) as u32 {
         let m = operand(w, j);
         let v = ws[m];
-        if leaf(v) {
+        if is(v, operands::LEAF) {
             return lower(own(m as u16, v, count, scope), best);
         }
         return walk(ws, m, count, scope, best);
@@ -88,8 +77,8 @@ fn part(ws: &[u64; NODES], n: usize, j: u32, count: u8, scope: u16, best: u16) -
 }
 
 // In the tree of node n. Called definitions are not entered.
-fn walk(ws: &[u64; NODES], n: usize, count: u8, scope: u16, best: u16) -> u16
-    requires { ⌜ (n < nodes) × AllFormed (now ws) ⌝ }
+fn walk(ws: &[u64; layout::NODES], n: usize, count: u8, scope: u16, best: u16) -> u16
+    requires { ⌜ (n < nodeLimit) × AllFormed (now ws) ⌝ }
     ensures { λ r. ⌜ Lowest count scope (treeAt (now (ws .entry)) n) best r ⌝ }
 {
     let w = ws[n];
@@ -102,19 +91,19 @@ fn walk(ws: &[u64; NODES], n: usize, count: u8, scope: u16, best: u16) -> u16
 
 // The lowest node that misreads, in main's tree and in those of the definitions.
 pub fn misread_lowest(
-    ws: &[u64; NODES],
-    counts: &[u8; NODES],
-    bodies: &[u8; NODES],
+    ws: &[u64; layout::NODES],
+    counts: &[u8; layout::NODES],
+    bodies: &[u8; layout::NODES],
     definitions: usize,
     main: u16,
 ) -> u16
-    requires { ⌜ AllFormed (now ws) × (definitions ≤ nodes) × (main < nodes) ⌝ }
-    ensures { λ r. ⌜ ((t : Table) → Told t (now (ws .entry)) (now (counts .entry)) (now (bodies .entry)) definitions main → lowest (misread 0 [] (tree t main) ++ misreadIn t (t .definitions)) ≡ found r) ⌝ }
+    requires { ⌜ AllFormed (now ws) × (definitions ≤ nodeLimit) × (main < nodeLimit) ⌝ }
+    ensures { λ r. ⌜ LowestMisread (now (ws .entry)) (now (counts .entry)) (now (bodies .entry)) definitions main r ⌝ }
 {
-    if reads::clean(ws, counts, bodies, definitions, main as usize) {
-        return NONE;
+    if scope_pass::clean(ws, counts, bodies, definitions, main as usize) {
+        return layout::NO_NODE;
     }
-    let mut r = NONE;
+    let mut r = layout::NO_NODE;
     let mut d = definitions;
     while 0 < d {
         d -= 1;
@@ -123,17 +112,17 @@ pub fn misread_lowest(
     walk(ws, main as usize, 0, 0, r)
 }
 
-fn offends_by(kind: u8, spread: bool, called: bool, count: u8) -> bool
-    ensures { λ r. ⌜ r ≡ offends kind spread called count ⌝ }
+fn offends_by(kind: u8, spatial: bool, called: bool, count: u8) -> bool
+    ensures { λ r. ⌜ r ≡ offends kind spatial called count ⌝ }
 {
-    if kind == 12 {
-        if spread {
+    if kind == shapes::CALL {
+        if spatial {
             return called;
         }
         return false;
     }
-    if kind == 11 {
-        if spread {
+    if kind == shapes::FOLD_BY {
+        if spatial {
             return true;
         }
         return count != 2;
@@ -147,11 +136,11 @@ fn or_call(called: bool, kind: u8) -> bool
     if called {
         return true;
     }
-    kind == 12
+    kind == shapes::CALL
 }
 
 fn wide(x: u8) -> usize
-    ensures { λ r. ⌜ (r ≡ x) × (r < nodes) ⌝ }
+    ensures { λ r. ⌜ (r ≡ x) × (r < nodeLimit) ⌝ }
 {
     x as usize
 }
@@ -159,23 +148,23 @@ fn wide(x: u8) -> usize
 // The lowest node that offends by its use of a definition: a spatial one that a lower node calls already, a fold by a
 // spatial one or one without two parameters.
 pub fn use_offends(
-    kinds: &[u8; NODES],
-    items: &[u8; NODES],
-    counts: &[u8; NODES],
-    bodies: &[u8; NODES],
-    sp: &[bool; NODES],
+    kinds: &[u8; layout::NODES],
+    items: &[u8; layout::NODES],
+    counts: &[u8; layout::NODES],
+    bodies: &[u8; layout::NODES],
+    sp: &[bool; layout::NODES],
     count: u16,
 ) -> u16
-    requires { ⌜ count ≤ nodes ⌝ }
-    ensures { λ r. ⌜ ((t : Table) → Columns t (now (kinds .entry)) (now (items .entry)) (now (counts .entry)) (now (bodies .entry)) (now (sp .entry)) count → lowest (offending (useOffends t) (length (t .nodes))) ≡ found r) ⌝ }
+    requires { ⌜ count ≤ nodeLimit ⌝ }
+    ensures { λ r. ⌜ LowestUse (now (kinds .entry)) (now (items .entry)) (now (counts .entry)) (now (bodies .entry)) (now (sp .entry)) count r ⌝ }
 {
     let no = false;
-    let mut called = [no; NODES];
+    let mut called = [no; layout::NODES];
     let mut n: u16 = 0;
     while n < count {
         let i = n as usize;
         let kind = kinds[i];
-        if kind < 11 {
+        if kind < shapes::FOLD_BY {
             n += 1;
             continue;
         }
@@ -187,5 +176,5 @@ pub fn use_offends(
         called[d] = or_call(called[d], kind);
         n += 1;
     }
-    NONE
+    layout::NO_NODE
 }

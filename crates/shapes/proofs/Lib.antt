@@ -1,2 +1,2 @@
-pub mod Pick
 pub mod Inside
+pub mod ByKind

@@ -1,4 +1,4 @@
--- An event takes at least 4 bytes, so no list of 4,096 bytes has more answers than the replay has space for. Assumes nothing.
+-- An event takes at least 4 bytes, so no list that a file holds has more answers than the replay has space for. Assumes nothing.
 use mathlib.Core.Path.{_≡_, refl}
 use mathlib.Core.Bool.{Bool, true, false, cond}
 use mathlib.Core.List.{List, [], _∷_}
@@ -12,8 +12,8 @@ use lib.Seq.{length-take-le}
 use borrow.Author.Tests.{leb-true, le-leb}
 use Rattle.wire.specs.Wire.{Fields, cut, whole, fieldsIn, fieldsOf}
 use Rattle.event.specs.Event.{Event, Entry, Read, entries, refusedAt, readAs, before, onEvent, readFrom, readList, entriesOf}
-use Rattle.event.specs.Calls.{room}
-use Rattle.shift.specs.Replayed.{blank}
+use Rattle.event.specs.Calls.{answerWidth, room}
+use Rattle.shift.specs.Replayed.{fileSize, mostEvents, blank}
 
 one-more : (e : Entry) (r : Read) → length (entriesOf (before e r)) ≤ suc (length (entriesOf r))
 one-more e (entries l) = omega arith
@@ -49,8 +49,8 @@ few-in (suc k) p (tag ∷ high ∷ low ∷ s) =
     omega (arith, field-few p tag n s (fieldsIn k (drop n s)) (leb n (length s)) refl (few-in k (suc p) (drop n s)))
 
 -- "below two numbers an event" is never so
-pub enough : (list : List ℕ) → length list ≤ 4096 → room (entriesOf (readList list)) blank ≡ (0, 0)
+pub enough : (list : List ℕ) → length list ≤ fileSize → room (entriesOf (readList list)) blank ≡ (0, 0)
 unfolding readList fieldsOf
 enough list h =
     let n = length (entriesOf (readList list)) in
-    rw (le-leb (2 * n) (length blank) (omega (arith, few-in (suc (length list)) 0 list, length-replicate 2048 (pos 0)))) refl
+    rw (le-leb (answerWidth * n) (length blank) (omega (arith, few-in (suc (length list)) 0 list, length-replicate (answerWidth * mostEvents) (pos 0)))) refl

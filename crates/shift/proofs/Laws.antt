@@ -5,23 +5,23 @@ use mathlib.Core.List.{List, [], _∷_}
 use Prim.Native.Nat.{ℕ, _*_, _≤_}
 use native.Mathlib.Omega.{arith}
 use lib.Dec.{eqb, leb}
-use lib.ListN.{length, replicate, length-replicate}
+use lib.ListN.{length, length-replicate}
 use lib.IntN.{ℤ, pos}
 use borrow.Author.Tests.{eqb-true, eqb-false, leb-true, ne-eqb, eq-eqb}
 use Rattle.verdict.specs.declared.Verdict as coded
-use Rattle.program.specs.Check.{Verdict, check}
-use Rattle.network.specs.Network.{fresh, freshCall, soundness}
-use Rattle.event.specs.Event.{Read, readList, entriesOf, listVerdict}
-use Rattle.event.specs.Calls.{Result, firstRefusal, room, tests, performed, carriedOut, run}
+use Rattle.program.specs.Check.{Verdict}
+use Rattle.network.specs.Network.{networkSize, fresh, freshCall}
+use Rattle.event.specs.Event.{Read, readList, entriesOf}
+use Rattle.event.specs.Calls.{answerWidth, Result, firstRefusal, tests, carriedOut, run}
 use Rattle.calls.specs.Carried.{result}
 use Rattle.lines.specs.Text.{lines, refused}
 use Rattle.shift.specs.Replayed.{blank, outcome, printed, replayed}
 
 -- the network is fresh before the run
-pub made : (zeros net : List ℤ) (v : ℕ × ℕ) → length zeros ≡ 8464 → (v, net) ≡ freshCall zeros → net ≡ fresh
+pub made : (zeros net : List ℤ) (v : ℕ × ℕ) → length zeros ≡ networkSize → (v, net) ≡ freshCall zeros → net ≡ fresh
 unfolding freshCall
 made zeros net v h e =
-    let p : freshCall zeros .1 ≡ fresh = rw (eq-eqb (length zeros) 8464 h) in
+    let p : freshCall zeros .1 ≡ fresh = rw (eq-eqb (length zeros) networkSize h) in
     ap (λ (x : (ℕ × ℕ) × List ℤ). x .1) e ∙ p
 
 -- ---- where the verdict is 0 the list's answers had room
@@ -70,9 +70,9 @@ module _ (program list : List ℕ) (v : coded.Verdict) (net space : List ℤ) (r
       ap (λ (m : ℕ). lines 0 m space) e
       ∙ ap (λ (b : Bool). cond b (lines 0 n space) (refused (v .number) (v .place))) (sym (eq-eqb (v .number) 0 h)) ∙ ap (printed n) ran
 
-  pub fits : (k : ℕ) → k ≡ length (entriesOf (readList list)) → v .number ≡ 0 → 2 * k ≤ 2048
+  pub fits : (k : ℕ) → k ≡ length (entriesOf (readList list)) → v .number ≡ 0 → answerWidth * k ≤ length blank
   unfolding outcome run tests
   fits k e h =
       let q = tested program fresh (readList list) blank (sym (ap (λ (r : Result). r .verdict .0) ran) ∙ h) in
-      let m = roomy (leb (2 * length (entriesOf (readList list))) (length blank)) (last _ (passed _ _ (passed _ _ (passed _ _ q)))) in
-      omega (arith, leb-true (2 * length (entriesOf (readList list))) (length blank) m, length-replicate 2048 (pos 0))
+      let m = roomy (leb (answerWidth * length (entriesOf (readList list))) (length blank)) (last _ (passed _ _ (passed _ _ (passed _ _ q)))) in
+      omega (arith, leb-true (answerWidth * length (entriesOf (readList list))) (length blank) m)

@@ -1,18 +1,28 @@
 -- What the replay prints of a program and a list of events. Definitions only: nothing is assumed.
 use mathlib.Core.Bool.{cond}
 use mathlib.Core.List.{List}
-use Prim.Native.Nat.{ℕ}
+use Prim.Native.Nat.{ℕ, _*_, _/_}
 use lib.Dec.{eqb}
 use lib.ListN.{length, replicate}
 use lib.IntN.{ℤ, pos}
 use Rattle.network.specs.Network.{fresh}
 use Rattle.event.specs.Event.{readList, entriesOf}
-use Rattle.event.specs.Calls.{Result, run}
-use Rattle.lines.specs.Text.{lines, refused}
+use Rattle.event.specs.Calls.{answerWidth, Result, run}
+use Rattle.lines.specs.Text.{lineRoom, lines, refused}
 
--- an answer space for each list of 4,096 bytes: an event takes 4 or more, an answer two numbers
+-- bytes of a file, and events in it, at the most: an event takes 4 bytes or more
+abbrev pub fileSize : ℕ
+fileSize = 4096
+
+abbrev pub mostEvents : ℕ
+mostEvents = fileSize / 4
+
+-- room for their answers, and for their lines
 abbrev pub blank : List ℤ
-blank = replicate 2048 (pos 0)
+blank = replicate (answerWidth * mostEvents) (pos 0)
+
+abbrev pub textRoom : ℕ
+textRoom = lineRoom * mostEvents
 
 -- "starts fresh"
 unfoldable pub outcome : List ℕ → List ℕ → Result

@@ -1,70 +1,52 @@
--- Whether a kind is broken, as the code asks it. Assumes nothing.
-use mathlib.Core.Path.{_≡_, refl, ap, _∙_}
-use mathlib.Core.Bool.{Bool, true, false, not, _||_}
-use Prim.Native.Nat.{ℕ, zero, suc, _/_, _<_, _≤_}
+-- Whether a kind is broken: of those that the code does not name, and of a node without children. Assumes nothing.
+use mathlib.Core.Path.{_≡_, refl}
+use mathlib.Core.Bool.{false}
+use Prim.Native.Nat.{ℕ, _<_}
 use native.Mathlib.Omega.{arith}
-use lib.Dec.{eqb}
-use borrow.Author.Tests.{eqb-true, eqb-false}
+use Rattle.program.specs.Table.{kindCount}
 use Rattle.shapes.specs.Shapes.{kidsOf}
+use Rattle.shapes.specs.Kinds.{senseKind, repKind, ifKind, muxKind, nbrKind, foldKind, foldByKind, callKind}
+use Rattle.shapes.proofs.ByKind.{by-kind}
 use Rattle.sorts.specs.declared.Flags.{Flags}
-use Rattle.sorts.specs.Sorts.{differs, brokenBy}
+use Rattle.sorts.specs.Sorts.{brokenBy}
 
-pub low-kind : (k : ℕ) (s : Flags) → k < 4 → false ≡ brokenBy k s
-low-kind zero s h = refl
-low-kind (suc zero) s h = refl
-low-kind (suc (suc zero)) s h = refl
-low-kind (suc (suc (suc zero))) s h = refl
-low-kind (suc (suc (suc (suc k)))) s h = absurd (omega arith)
+pub other-kind : (s : Flags) (kind : ℕ) → kind < kindCount → (kind ≡ senseKind → ⊥) → (kind ≡ repKind → ⊥) → (kind ≡ ifKind → ⊥) → (kind ≡ muxKind → ⊥)
+    → (kind ≡ nbrKind → ⊥) → (kind ≡ foldKind → ⊥) → (kind ≡ foldByKind → ⊥) → (kind ≡ callKind → ⊥) → false ≡ brokenBy kind s
+other-kind s =
+    by-kind {P = λ k. (k ≡ senseKind → ⊥) → (k ≡ repKind → ⊥) → (k ≡ ifKind → ⊥) → (k ≡ muxKind → ⊥) → (k ≡ nbrKind → ⊥) → (k ≡ foldKind → ⊥) → (k ≡ foldByKind → ⊥)
+    → (k ≡ callKind → ⊥) → false ≡ brokenBy k s}
+    record {
+      constant = λ a b c d e f g h. refl;
+      parameter = λ a b c d e f g h. refl;
+      variable = λ a b c d e f g h. refl;
+      operator = λ a b c d e f g h. refl;
+      sense = λ a b c d e f g h. absurd (a refl);
+      rep = λ a b c d e f g h. absurd (b refl);
+      ifThen = λ a b c d e f g h. absurd (c refl);
+      mux = λ a b c d e f g h. absurd (d refl);
+      nbr = λ a b c d e f g h. absurd (e refl);
+      range = λ a b c d e f g h. refl;
+      fold = λ a b c d e f g h. absurd (f refl);
+      foldBy = λ a b c d e f g h. absurd (g refl);
+      call = λ a b c d e f g h. absurd (h refl);
+    }
 
-pub fold-kind : (k : ℕ) (s : Flags) {r : Bool} → k / 2 ≡ 5 → r ≡ s .a || not (s .b) → r ≡ brokenBy k s
-fold-kind k s {r} h e = go (eqb k 10) refl
-  where
-    go : (b : Bool) → eqb k 10 ≡ b → r ≡ brokenBy k s
-    go true q = rw (eqb-true k 10 q) e
-    go false q = let d = eqb-false k 10 q in let z : k ≡ 11 = omega arith in rw z e
-
-module _ (k : ℕ) (s : Flags) {r : Bool} where
-  pub kind-6 : {two : Bool} → k ≡ 6 → two ≡ differs (s .b) (s .c) → r ≡ s .a || two → r ≡ brokenBy k s
-  kind-6 e p q = rw e (q ∙ ap (λ (z : Bool). s .a || z) p)
-
-  pub kind-5 : k ≡ 5 → r ≡ s .a || s .b → r ≡ brokenBy k s
-  kind-5 e q = rw e q
-
-  pub kind-7 : {two : Bool} → k ≡ 7 → two ≡ s .a || s .b → r ≡ two || s .c → r ≡ brokenBy k s
-  kind-7 e p q = rw e (q ∙ ap (λ (z : Bool). z || s .c) p)
-
-  pub kind-12 : {two three : Bool} → k ≡ 12 → two ≡ s .a || s .b → three ≡ two || s .c → r ≡ three || s .d → r ≡ brokenBy k s
-  kind-12 e p q o = rw e (o ∙ ap (λ (z : Bool). z || s .d) (q ∙ ap (λ (z : Bool). z || s .c) p))
-
-pub other-kind : (s : Flags) (k : ℕ) → k < 13 → 4 ≤ k → (k ≡ 6 → ⊥) → (k ≡ 9 → ⊥) → (k / 2 ≡ 5 → ⊥) → (k ≡ 5 → ⊥) → (k ≡ 7 → ⊥) → (k ≡ 12 → ⊥) → s .a ≡ brokenBy k s
-other-kind s zero l h a b c d e f = absurd (omega arith)
-other-kind s (suc zero) l h a b c d e f = absurd (omega arith)
-other-kind s (suc (suc zero)) l h a b c d e f = absurd (omega arith)
-other-kind s (suc (suc (suc zero))) l h a b c d e f = absurd (omega arith)
-other-kind s (suc (suc (suc (suc zero)))) l h a b c d e f = refl
-other-kind s (suc (suc (suc (suc (suc zero))))) l h a b c d e f = absurd (d refl)
-other-kind s (suc (suc (suc (suc (suc (suc zero)))))) l h a b c d e f = absurd (a refl)
-other-kind s (suc (suc (suc (suc (suc (suc (suc zero))))))) l h a b c d e f = absurd (e refl)
-other-kind s (suc (suc (suc (suc (suc (suc (suc (suc zero)))))))) l h a b c d e f = refl
-other-kind s (suc (suc (suc (suc (suc (suc (suc (suc (suc zero))))))))) l h a b c d e f = absurd (b refl)
-other-kind s (suc (suc (suc (suc (suc (suc (suc (suc (suc (suc zero)))))))))) l h a b c d e f = absurd (c refl)
-other-kind s (suc (suc (suc (suc (suc (suc (suc (suc (suc (suc (suc zero))))))))))) l h a b c d e f = absurd (c refl)
-other-kind s (suc (suc (suc (suc (suc (suc (suc (suc (suc (suc (suc (suc zero)))))))))))) l h a b c d e f = absurd (f refl)
-other-kind s (suc (suc (suc (suc (suc (suc (suc (suc (suc (suc (suc (suc (suc k))))))))))))) l h a b c d e f = absurd (omega arith)
-
--- a node without children
-pub no-fields : (kind count : ℕ) → kidsOf kind count ≡ 0 → brokenBy kind (record { a = false; b = false; c = false; d = false }) ≡ false
-no-fields zero count e = refl
-no-fields (suc zero) count e = refl
-no-fields (suc (suc zero)) count e = refl
-no-fields (suc (suc (suc zero))) count e = refl
-no-fields (suc (suc (suc (suc zero)))) count e = refl
-no-fields (suc (suc (suc (suc (suc zero))))) count e = refl
-no-fields (suc (suc (suc (suc (suc (suc zero)))))) count e = refl
-no-fields (suc (suc (suc (suc (suc (suc (suc zero))))))) count e = refl
-no-fields (suc (suc (suc (suc (suc (suc (suc (suc zero)))))))) count e = refl
-no-fields (suc (suc (suc (suc (suc (suc (suc (suc (suc zero))))))))) count e = refl
-no-fields (suc (suc (suc (suc (suc (suc (suc (suc (suc (suc zero)))))))))) count e = absurd (omega arith)
-no-fields (suc (suc (suc (suc (suc (suc (suc (suc (suc (suc (suc zero))))))))))) count e = absurd (omega arith)
-no-fields (suc (suc (suc (suc (suc (suc (suc (suc (suc (suc (suc (suc zero)))))))))))) count e = refl
-no-fields (suc (suc (suc (suc (suc (suc (suc (suc (suc (suc (suc (suc (suc k))))))))))))) count e = refl
+pub no-fields : (kind count : ℕ) → kind < kindCount → kidsOf kind count ≡ 0 → brokenBy kind (record { a = false; b = false; c = false; d = false }) ≡ false
+no-fields kind count =
+    by-kind {P = λ k. kidsOf k count ≡ 0 → brokenBy k (record { a = false; b = false; c = false; d = false }) ≡ false}
+    record {
+      constant = λ e. refl;
+      parameter = λ e. refl;
+      variable = λ e. refl;
+      operator = λ e. refl;
+      sense = λ e. refl;
+      rep = λ e. refl;
+      ifThen = λ e. refl;
+      mux = λ e. refl;
+      nbr = λ e. refl;
+      range = λ e. refl;
+      fold = λ e. absurd (omega arith);
+      foldBy = λ e. absurd (omega arith);
+      call = λ e. refl;
+    }
+    kind

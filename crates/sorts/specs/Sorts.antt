@@ -5,8 +5,9 @@ use mathlib.Core.List.{List, [], _∷_}
 use Prim.Native.Nat.{ℕ}
 use lib.ListN.{getD}
 use lib.Dec.{leb, ltb}
+use Rattle.program.specs.Table.{nodeLimit}
+use Rattle.words.specs.Form.{fieldForms}
 use Rattle.words.specs.Word.{form, word}
-use Rattle.operands.specs.Formed.{nodes}
 use Rattle.nodes.specs.declared.Node.{Node}
 use Rattle.sorts.specs.declared.Flags.{Flags}
 
@@ -15,7 +16,7 @@ differs x y = cond x (not y) y
 
 -- node k is a field
 abbrev pub fieldAt : List ℕ → ℕ → Bool
-fieldAt ws k = leb 16 (form (word ws k))
+fieldAt ws k = leb fieldForms (form (word ws k))
 
 -- child j, of so many, is a field
 abbrev pub partField : List ℕ → ℕ → ℕ → ℕ → Bool
@@ -36,14 +37,26 @@ brokenBy kind s =
     let two : Bool = s .a || s .b in
     let fold : Bool = s .a || not (s .b) in
     getD (
-    false ∷ false ∷ false ∷ false ∷ s .a ∷ two ∷ (s .a || differs (s .b) (s .c)) ∷ (two || s .c) ∷ s .a ∷ false ∷ fold ∷ fold
-    ∷ ((two || s .c) || s .d) ∷ [])
+    false  -- constant
+    ∷ false  -- parameter
+    ∷ false  -- variable
+    ∷ false  -- operator
+    ∷ s .a  -- sense
+    ∷ two  -- rep
+    ∷ (s .a || differs (s .b) (s .c))  -- if
+    ∷ (two || s .c)  -- mux
+    ∷ s .a  -- nbr
+    ∷ false  -- nbr-range
+    ∷ fold  -- fold by operator
+    ∷ fold  -- fold by definition
+    ∷ ((two || s .c) || s .d)  -- call
+    ∷ [])
     kind
     false
 
 -- the lowest that offends, where r was that before node n
 abbrev pub firstBad : ℕ → ℕ → Bool → ℕ
-firstBad r n bad = cond (ltb r nodes) r (cond bad n nodes)
+firstBad r n bad = cond (ltb r nodeLimit) r (cond bad n nodeLimit)
 
 -- the lower of r and node k, where that is a field; the lowest of r and of those among ks that are fields
 abbrev pub lowerField : List ℕ → ℕ → ℕ → ℕ

@@ -2,6 +2,45 @@
 ghost use mathlib.Core.Path.{_≡_};
 ghost use Rattle.words.specs.Word.{form, item, p1, p2, p3, p4, body, count, constantOf};
 
+// The forms, as crate words names them: those below LEAVES are leaves, those from FIELDS on give a field.
+pub const CONSTANT: u8 = 0;
+
+pub const PARAMETER: u8 = 1;
+
+pub const VARIABLE: u8 = 2;
+
+pub const OPERATOR: u8 = 3;
+
+pub const SENSE: u8 = 4;
+
+pub const REP: u8 = 5;
+
+pub const IF: u8 = 6;
+
+pub const MUX: u8 = 7;
+
+pub const FOLD_BY: u8 = 8;
+
+pub const CALL: u8 = 9;
+
+pub const FOLD: u8 = 10;
+
+pub const LEAST: u8 = 11;
+
+pub const PAIR: u8 = 12;
+
+pub const NBR: u8 = 16;
+
+pub const RANGE: u8 = 17;
+
+pub const FIELD_IF: u8 = 18;
+
+pub const FIELD_OPERATOR: u8 = 19;
+
+pub const LEAVES: u8 = 3;
+
+pub const FIELDS: u8 = 16;
+
 pub fn form_of(w: u64) -> u8
     ensures { λ r. ⌜ r ≡ form w ⌝ }
 {

@@ -1,8 +1,8 @@
 -- Lists of fields as bytes. Definitions only: nothing is assumed.
 -- "Fields: one-byte tag, two-byte length (high byte first), body."
 use mathlib.Core.Bool.{cond}
-use mathlib.Core.List.{List, [], _∷_, _++_}
-use Prim.Native.Nat.{ℕ, zero, suc, _+_, _*_, _/_, _%_}
+use mathlib.Core.List.{List, [], _∷_}
+use Prim.Native.Nat.{ℕ, zero, suc, _+_, _*_}
 use lib.ListN.{length, take, drop}
 use lib.Dec.{leb}
 

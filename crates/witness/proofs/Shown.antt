@@ -1,6 +1,6 @@
 -- What demand 3 is given can be met, and what it then concludes, by computation and by demand 3.
 use mathlib.Core.Path.{_≡_, refl, sym, ap, _∙_}
-use mathlib.Core.List.{List, [], _∷_}
+use mathlib.Core.List.{List, []}
 use Prim.Native.Nat.{ℕ, _+_, _<_}
 use native.Mathlib.Decide.{ℕ-discrete}
 use native.Mathlib.Omega.{arith}
@@ -17,11 +17,11 @@ use Rattle.event.proofs.Passed.{run-performed}
 use Rattle.paper.specs.Programs.{counter}
 use Rattle.paper.proofs.Computed.{computed}
 use Rattle.paper.proofs.Fresh.{fresh-sound}
-use Rattle.reorder.specs.Clash.{entriesClash}
-use Rattle.reorder.specs.Same.{sameBoth, sameBytes, sameParts, sameEntry}
-use Rattle.reorder.specs.Demand3.{answerAt, Given, RunAlike}
-use Rattle.reorder.proofs.Symmetric.{entries-symmetric}
-use Rattle.reorder.proofs.Whole.{demand-3}
+use Rattle.clash.specs.Clash.{entriesClash}
+use Rattle.clash.specs.Same.{sameBoth, sameBytes, sameParts, sameEntry}
+use Rattle.clash.specs.Demand3.{answerAt, Given, EndAlike}
+use Rattle.clash.proofs.Symmetric.{entries-symmetric}
+use Rattle.clash.proofs.Whole.{demand-3}
 use Rattle.witness.specs.Shift.{tally, fires, delivers, loses, shift, exchanged, bytes, zeros}
 use Rattle.witness.specs.Met.{first, second, answer, cell, Met}
 
@@ -45,7 +45,7 @@ given =
       order = orders .1;
     }
 
-alike : RunAlike sameEntry shift exchanged first second
+alike : EndAlike sameEntry shift exchanged first second
 alike = demand-3 sameEntry tally fresh fresh _ _ zeros zeros _ _ given
 
 performs : first ≡ performed (mainOf tally) fresh shift zeros

@@ -2,7 +2,7 @@
 -- `proofs/Shown.antt` shows it. Definitions only: nothing is assumed.
 use mathlib.Core.Path.{_≡_}
 use mathlib.Core.Bool.{Bool, true, false, _||_}
-use mathlib.Core.List.{List, [], _∷_, _++_, map}
+use mathlib.Core.List.{List, [], _∷_, map}
 use Prim.Native.Nat.{ℕ, _+_}
 use lib.ListN.{getD}
 use lib.IntN.{ℤ, pos}
@@ -13,9 +13,9 @@ use Rattle.event.specs.Event.{Entry}
 use Rattle.event.specs.Step.{Answer, heardFrom, pendingTo}
 use Rattle.event.specs.Calls.{Result, run}
 use Rattle.paper.specs.Programs.{counter}
-use Rattle.reorder.specs.Clash.{entriesClash}
-use Rattle.reorder.specs.Same.{sameEntry}
-use Rattle.reorder.specs.Demand3.{answerAt, Given, RunAlike}
+use Rattle.clash.specs.Clash.{entriesClash}
+use Rattle.clash.specs.Same.{sameEntry}
+use Rattle.clash.specs.Demand3.{answerAt, Given, EndAlike}
 use Rattle.witness.specs.Shift.{tally, fires, delivers, loses, links, signals, left, right, shift, exchanged, bytes, zeros}
 
 -- whether some event of l clashes with some event of m
@@ -55,7 +55,7 @@ pub record Met : Type 0 where
       × (entriesClash (signals 3 0 1) (fires 3) ≡ true)
   -- they are what demand 3 is given, and it concludes
   pub given : Given entriesClash sameEntry tally fresh fresh (bytes shift) (bytes exchanged) zeros zeros shift exchanged
-  pub alike : RunAlike sameEntry shift exchanged first second
+  pub alike : EndAlike sameEntry shift exchanged first second
   -- read off it, of the second run: the second copy of fire 1 and of fire 2 answers 1, where the first answers 0
   pub copies : (count sameEntry (fires 1) shift ≡ 2) × (place sameEntry (fires 1) 1 shift ≡ 6) × (place sameEntry (fires 1) 1 exchanged ≡ 18)
   pub first-copy : (answer (fires 1) 0 ≡ (pos 0, pos 0)) × (answer (fires 2) 0 ≡ (pos 0, pos 0))
@@ -69,4 +69,4 @@ pub record Met : Type 0 where
   pub cells : (cell (base 1) ≡ pos 1) × (cell (pendingTo 1 2) ≡ pos 1) × (cell (heardFrom 3 1 + 1) ≡ pos 6)
   -- "empty ones too"
   pub empty : Given entriesClash sameEntry counter fresh fresh [] [] [] [] [] []
-  pub alike-empty : RunAlike sameEntry [] [] (run counter fresh [] []) (run counter fresh [] [])
+  pub alike-empty : EndAlike sameEntry [] [] (run counter fresh [] []) (run counter fresh [] [])

@@ -1,3 +1,4 @@
+pub mod Form
 pub mod Word
 pub mod Trees
 pub mod Sound

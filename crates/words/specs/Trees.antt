@@ -6,6 +6,8 @@ use lib.ListN.{getD}
 use lib.Dec.{eqb, ltb}
 use Rattle.number.specs.Number.{operatorOf}
 use Rattle.program.specs.Tree.{Expr, nothing, constant, parameter, variable, operator, sense, rep, branch, mux, nbr, range, foldOp, foldDef, call}
+use Rattle.words.specs.Form.{constantForm, parameterForm, variableForm, operatorForm, senseForm, repForm, ifForm, muxForm, foldByForm, callForm, foldForm}
+use Rattle.words.specs.Form.{leastForm, pairForm, nbrForm, rangeForm, fieldIfForm}
 use Rattle.words.specs.Word.{form, item, p1, p2, p3, p4, body, count, constantOf, word}
 
 abbrev pub at : List Expr → ℕ → Expr
@@ -18,21 +20,23 @@ argAt es w j k = cond (ltb j (count w)) (at es k) nothing
 -- node n's tree, from those of the nodes before it
 unfoldable pub made : ℕ → List Expr → ℕ → Expr
 made n es w =
-    cond (eqb (form w) 0) (constant (constantOf w))
-    (cond (eqb (form w) 1) (parameter n (item w))
-    (cond (eqb (form w) 2) (variable n (item w))
-    (cond (eqb (form w) 3) (operator n (operatorOf (item w)) (at es (p1 w)) (at es (p2 w)))
-    (cond (eqb (form w) 4) (sense (at es (p1 w)))
-    (cond (eqb (form w) 5) (rep (item w) (at es (p1 w)) (at es (p2 w)))
-    (cond (eqb (form w) 6) (branch (at es (p1 w)) (at es (p2 w)) (at es (p3 w)))
-    (cond (eqb (form w) 7) (mux (at es (p1 w)) (at es (p2 w)) (at es (p3 w)))
-    (cond (eqb (form w) 8) (foldDef (at es (body w)) (at es (p1 w)) (at es (p2 w)))
-    (cond (eqb (form w) 9) (call (at es (body w)) (argAt es w 0 (p1 w)) (argAt es w 1 (p2 w)) (argAt es w 2 (p3 w)) (argAt es w 3 (p4 w)))
-    (cond (eqb (form w) 10) (foldOp n (operatorOf (item w)) (at es (p1 w)) (at es (p2 w)))
-    (cond (eqb (form w) 16) (nbr (item w) (at es (p1 w)))
-    (cond (eqb (form w) 17) (range (item w))
-    (cond (eqb (form w) 18) (branch (at es (p1 w)) (at es (p2 w)) (at es (p3 w)))
-    (operator n (operatorOf (item w)) (at es (p1 w)) (at es (p2 w))))))))))))))))
+    cond (eqb (form w) constantForm) (constant (constantOf w))
+    (cond (eqb (form w) parameterForm) (parameter n (item w))
+    (cond (eqb (form w) variableForm) (variable n (item w))
+    (cond (eqb (form w) operatorForm) (operator n (operatorOf (item w)) (at es (p1 w)) (at es (p2 w)))
+    (cond (eqb (form w) senseForm) (sense (at es (p1 w)))
+    (cond (eqb (form w) repForm) (rep (item w) (at es (p1 w)) (at es (p2 w)))
+    (cond (eqb (form w) ifForm) (branch (at es (p1 w)) (at es (p2 w)) (at es (p3 w)))
+    (cond (eqb (form w) muxForm) (mux (at es (p1 w)) (at es (p2 w)) (at es (p3 w)))
+    (cond (eqb (form w) foldByForm) (foldDef (at es (body w)) (at es (p1 w)) (at es (p2 w)))
+    (cond (eqb (form w) callForm) (call (at es (body w)) (argAt es w 0 (p1 w)) (argAt es w 1 (p2 w)) (argAt es w 2 (p3 w)) (argAt es w 3 (p4 w)))
+    (cond (eqb (form w) foldForm) (foldOp n (operatorOf (item w)) (at es (p1 w)) (at es (p2 w)))
+    (cond (eqb (form w) leastForm) (foldDef (at es (body w)) (at es (p1 w)) (at es (p2 w)))
+    (cond (eqb (form w) pairForm) (operator n (operatorOf (item w)) (at es (p1 w)) (at es (p2 w)))
+    (cond (eqb (form w) nbrForm) (nbr (item w) (at es (p1 w)))
+    (cond (eqb (form w) rangeForm) (range (item w))
+    (cond (eqb (form w) fieldIfForm) (branch (at es (p1 w)) (at es (p2 w)) (at es (p3 w)))
+    (operator n (operatorOf (item w)) (at es (p1 w)) (at es (p2 w))))))))))))))))))
 
 -- the trees of the nodes below n
 unfoldable pub below : List ℕ → ℕ → List Expr

@@ -5,8 +5,7 @@ use Prim.Native.Nat.{ℕ, _/_, _%_}
 use lib.ListN.{getD}
 use lib.IntN.{ℤ, pos, _-ℤ_}
 
--- Forms 0 to 10 give a number: 0 constant, 1 parameter, 2 variable, 3 operator, 4 sense, 5 rep, 6 if, 7 mux, 8 fold by definition, 9 call, 10 fold by
--- operator. Forms 16 to 19 give a field: 16 nbr, 17 nbr-range, 18 if, 19 operator
+-- one of the forms in Form
 abbrev pub form : ℕ → ℕ
 form w = w % 32
 
@@ -38,5 +37,6 @@ count w = w / 576460752303423488 % 8
 abbrev pub constantOf : ℕ → ℤ
 constantOf w = pos (w / 4294967296) -ℤ pos 2147483648
 
+-- node n's word
 abbrev pub word : List ℕ → ℕ → ℕ
 word ws n = getD ws n 0

@@ -109,7 +109,8 @@ returns-12 c =
     let s = c .before .before in
     let r = c .before .match .rest in
     ap (λ (t : Bool). truth (not t)) (sym (eqZ-yes (s .args .x) (s .args .y) (same-bits w32 (s .args .x) (s .args .y) (s .fits .x) (s .fits .y) (c .if5 .taken))))
-    ∙ sym (ap (λ (o : Operator). result o (s .args .x) (s .args .y)) (others (s .args .o) (r .0 .0 .0 .0 .0 .0 .1) (r .0 .0 .0 .0 .0 .1) (r .0 .0 .0 .0 .1) (s .pre) (r .0 .0 .0 .1) (r .0 .0 .1) (r .0 .1) (r .1)))
+    ∙ sym (ap (λ (o : Operator). result o (s .args .x) (s .args .y)) (others (s .args .o) (r .0 .0 .0 .0 .0 .0 .1) (r .0 .0 .0 .0 .0 .1) (r .0 .0 .0 .0 .1) (s .pre) (r .0 .0 .0 .1)
+    (r .0 .0 .1) (r .0 .1) (r .1)))
 
 returns-13 : tie.Need-returns-13
 unfolding operatorOf result
@@ -117,7 +118,8 @@ returns-13 c =
     let s = c .before .before in
     let r = c .before .match .rest in
     ap (λ (t : Bool). truth (not t)) (sym (eqZ-no (s .args .x) (s .args .y) (λ e. c .if5 .left (ap (ofZ w32) e))))
-    ∙ sym (ap (λ (o : Operator). result o (s .args .x) (s .args .y)) (others (s .args .o) (r .0 .0 .0 .0 .0 .0 .1) (r .0 .0 .0 .0 .0 .1) (r .0 .0 .0 .0 .1) (s .pre) (r .0 .0 .0 .1) (r .0 .0 .1) (r .0 .1) (r .1)))
+    ∙ sym (ap (λ (o : Operator). result o (s .args .x) (s .args .y)) (others (s .args .o) (r .0 .0 .0 .0 .0 .0 .1) (r .0 .0 .0 .0 .0 .1) (r .0 .0 .0 .0 .1) (s .pre) (r .0 .0 .0 .1)
+    (r .0 .0 .1) (r .0 .1) (r .1)))
 
 pub operate-spec : {M : Type 1} → statement M
 operate-spec =

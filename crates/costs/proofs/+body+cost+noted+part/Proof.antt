@@ -7,7 +7,8 @@ use borrow.Author.Needs.{needs}
 use borrow.Fn.Kinds.{In}
 use borrow.Fn.PlainCycle.{Measures, is, falls, and}
 use Rattle.unpack.proofs.form_of.Reads as form-of-reads
-use Rattle.operands.proofs.leaf.Reads as leaf-reads
+use Rattle.program.specs.Table.{nodeLimit}
+use Rattle.operands.proofs.is.Reads as is-reads
 use Rattle.operands.proofs.Leaves.{leaf-of}
 use Rattle.operands.proofs.operand.Reads as operand-reads
 use Rattle.operands.proofs.width_of.Reads as width-of-reads
@@ -66,7 +67,18 @@ abbrev part-below : ℕ → In 2 part-kinds.ps
 part-below t = and 2 part-kinds.ps (falls 2 part-kinds.ps _<_ μ-part t) part.Pre
 
 abbrev body-calls : ℕ → body-lts.Claims
-body-calls t = (form-of-reads.Asked, form-of-reads.Learnt, operand-reads.Asked, operand-reads.Learnt, noted-below t, noted.Post, fifteen-reads.Asked, fifteen-reads.Learnt, add-reads.Asked, add-reads.Learnt)
+body-calls t = (
+  form-of-reads.Asked,
+  form-of-reads.Learnt,
+  operand-reads.Asked,
+  operand-reads.Learnt,
+  noted-below t,
+  noted.Post,
+  fifteen-reads.Asked,
+  fifteen-reads.Learnt,
+  add-reads.Asked,
+  add-reads.Learnt,
+)
 
 abbrev cost-calls : ℕ → cost-lts.Claims
 cost-calls t = (add-reads.Asked, add-reads.Learnt, form-of-reads.Asked, form-of-reads.Learnt, part-below t, part.Post, body-below t, body.Post)
@@ -75,7 +87,7 @@ abbrev noted-calls : ℕ → noted-lts.Claims
 noted-calls t = (cost-below t, cost.Post)
 
 abbrev part-calls : ℕ → part-lts.Claims
-part-calls t = (width-of-reads.Asked, width-of-reads.Learnt, operand-reads.Asked, operand-reads.Learnt, leaf-reads.Asked, leaf-reads.Learnt, add-reads.Asked, add-reads.Learnt, cost-below t, cost.Post)
+part-calls t = (width-of-reads.Asked, width-of-reads.Learnt, operand-reads.Asked, operand-reads.Learnt, is-reads.Asked, is-reads.Learnt, add-reads.Asked, add-reads.Learnt, cost-below t, cost.Post)
 
 body-mul-w : (t : ℕ) → body-lts.Need-mul-w (body-calls t) (body-at t) body.Post
 body-mul-w t c = search needs
@@ -90,7 +102,11 @@ body-operand-requires : (t : ℕ) → body-lts.Need-operand-requires (body-calls
 body-operand-requires t c κs = search needs
 
 body-noted-requires : (t : ℕ) → body-lts.Need-noted-requires (body-calls t) (body-at t) body.Post
-body-noted-requires t c κs = asks-noted (c .before .before .before .before .before .pre .0) (c .before .before .before .before .before .pre .1 .0) (c .operand .ensures) (c .before .before .before .before .before .pre .1 .0 .formed .node (c .before .before .before .before .before .args .n) (c .before .before .before .before .before .pre .1 .0 .inside) .folds (sym (c .before .before .before .form-of .ensures) ∙ c .before .before .if1 .taken))
+body-noted-requires t c κs =
+    let b2 = c .before .before in
+    let b3 = b2 .before in
+    let b5 = b3 .before .before in
+    asks-noted (b5 .pre .0) (b5 .pre .1 .0) (c .operand .ensures) (b5 .pre .1 .0 .formed .node (b5 .args .n) (b5 .pre .1 .0 .inside) .folds (sym (b3 .form-of .ensures) ∙ b2 .if1 .taken))
 
 body-fifteen-requires : (t : ℕ) → body-lts.Need-fifteen-requires (body-calls t) (body-at t) body.Post
 body-fifteen-requires t c κs = at-most (c .noted .ensures)
@@ -99,22 +115,41 @@ body-add-requires : (t : ℕ) → body-lts.Need-add-requires (body-calls t) (bod
 body-add-requires t c κs = (c .before .before .before .before .before .before .before .pre .1 .1, within _ (c .fifteen .ensures))
 
 body-returns : (t : ℕ) → body-lts.Need-returns (body-calls t) (body-at t) body.Post
-body-returns t c = body-fold (getD (c .before .before .before .before .before .before .before .before .args .ws .now) (c .before .before .before .before .before .before .before .before .args .n) 0) (c .before .before .before .before .before .before .form-of .ensures) (c .before .before .before .before .before .before .before .before .args .sum) (c .before .before .before .before .before .if1 .taken) (c .before .before .before .operand .ensures) (c .before .before .noted .ensures) (c .before .fifteen .ensures) (c .add .ensures)
+body-returns t c =
+    let b2 = c .before .before in
+    let b3 = b2 .before in
+    let b5 = b3 .before .before in
+    let b6 = b5 .before in
+    let b8 = b6 .before .before in
+    body-fold (getD (b8 .args .ws .now) (b8 .args .n) 0) (b6 .form-of .ensures) (b8 .args .sum) (b5 .if1 .taken) (b3 .operand .ensures) (b2 .noted .ensures) (c .before .fifteen .ensures)
+    (c .add .ensures)
 
 body-operand-requires-2 : (t : ℕ) → body-lts.Need-operand-requires-2 (body-calls t) (body-at t) body.Post
 body-operand-requires-2 t c κs = search needs
 
 body-noted-requires-2 : (t : ℕ) → body-lts.Need-noted-requires-2 (body-calls t) (body-at t) body.Post
-body-noted-requires-2 t c κs = asks-noted (c .before .before .before .before .before .before .pre .0) (c .before .before .before .before .before .before .pre .1 .0) (c .operand2 .ensures) (c .before .before .before .before .before .before .pre .1 .0 .formed .node (c .before .before .before .before .before .before .args .n) (c .before .before .before .before .before .before .pre .1 .0 .inside) .calls (sym (c .before .before .before .before .form-of .ensures) ∙ c .before .before .if2 .taken))
+body-noted-requires-2 t c κs =
+    let b2 = c .before .before in
+    let b4 = b2 .before .before in
+    let b6 = b4 .before .before in
+    asks-noted (b6 .pre .0) (b6 .pre .1 .0) (c .operand2 .ensures) (b6 .pre .1 .0 .formed .node (b6 .args .n) (b6 .pre .1 .0 .inside) .calls (sym (b4 .form-of .ensures) ∙ b2 .if2 .taken))
 
 body-add-requires-2 : (t : ℕ) → body-lts.Need-add-requires-2 (body-calls t) (body-at t) body.Post
 body-add-requires-2 t c κs = (c .before .before .before .before .before .before .before .pre .1 .1, at-most (c .noted2 .ensures))
 
 body-returns-2 : (t : ℕ) → body-lts.Need-returns-2 (body-calls t) (body-at t) body.Post
-body-returns-2 t c = body-call (getD (c .before .before .before .before .before .before .before .before .args .ws .now) (c .before .before .before .before .before .before .before .before .args .n) 0) (c .before .before .before .before .before .before .form-of .ensures) (c .before .before .before .before .before .before .before .before .args .sum) (c .before .before .before .before .if2 .taken) (c .before .before .operand2 .ensures) (c .before .noted2 .ensures) (c .add2 .ensures)
+body-returns-2 t c =
+    let b2 = c .before .before in
+    let b4 = b2 .before .before in
+    let b6 = b4 .before .before in
+    let b8 = b6 .before .before in
+    body-call (getD (b8 .args .ws .now) (b8 .args .n) 0) (b6 .form-of .ensures) (b8 .args .sum) (b4 .if2 .taken) (b2 .operand2 .ensures) (c .before .noted2 .ensures) (c .add2 .ensures)
 
 body-returns-3 : (t : ℕ) → body-lts.Need-returns-3 (body-calls t) (body-at t) body.Post
-body-returns-3 t c = body-none (getD (c .before .before .before .before .args .ws .now) (c .before .before .before .before .args .n) 0) (c .before .before .form-of .ensures) (c .before .before .before .before .args .sum) (c .before .if1 .left) (c .if2 .left) (c .before .before .before .before .pre .1 .0 .noted) (c .before .before .before .before .pre .1 .1)
+body-returns-3 t c =
+    let b2 = c .before .before in
+    let b4 = b2 .before .before in
+    body-none (getD (b4 .args .ws .now) (b4 .args .n) 0) (b2 .form-of .ensures) (b4 .args .sum) (c .before .if1 .left) (c .if2 .left) (b4 .pre .1 .0 .noted) (b4 .pre .1 .1)
 
 cost-mul-w : (t : ℕ) → cost-lts.Need-mul-w (cost-calls t) (cost-at t) cost.Post
 cost-mul-w t c = search needs
@@ -129,31 +164,68 @@ cost-form-of-requires : (t : ℕ) → cost-lts.Need-form-of-requires (cost-calls
 cost-form-of-requires t c κs = search needs
 
 cost-part-requires : (t : ℕ) → cost-lts.Need-part-requires (cost-calls t) (cost-at t) cost.Post
-cost-part-requires t c κs = (omega (arith, c .before .before .before .before .before .pre .0), (omega arith, c .before .before .before .before .before .pre .1 .0, within _ (c .before .before .before .add .ensures)))
+cost-part-requires t c κs =
+    let b3 = c .before .before .before in
+    let b5 = b3 .before .before in
+    (omega (arith, b5 .pre .0), (omega arith, b5 .pre .1 .0, within _ (b3 .add .ensures)))
 
 cost-part-requires-2 : (t : ℕ) → cost-lts.Need-part-requires-2 (cost-calls t) (cost-at t) cost.Post
-cost-part-requires-2 t c κs = (omega (arith, c .before .before .before .before .before .before .before .pre .0), (omega arith, goes-on (c .before .before .before .before .before .before .before .pre .1 .0) (c .before .part .ensures), at-most (c .before .part .ensures)))
+cost-part-requires-2 t c κs =
+    let b7 = c .before .before .before .before .before .before .before in
+    (omega (arith, b7 .pre .0), (omega arith, goes-on (b7 .pre .1 .0) (c .before .part .ensures), at-most (c .before .part .ensures)))
 
 cost-returns : (t : ℕ) → cost-lts.Need-returns (cost-calls t) (cost-at t) cost.Post
-cost-returns t c = record { value = operator-joined (c .before .before .before .before .before .before .before .before .pre .1 .0 .formed .node (c .before .before .before .before .before .before .before .before .args .n) (c .before .before .before .before .before .before .before .before .pre .1 .0 .inside)) (c .before .before .before .before .before .before .before .before .args .sum) (sym (c .before .before .before .before .before .form-of .ensures) ∙ c .before .before .before .before .if1 .taken) (c .before .before .before .before .before .before .add .ensures) (c .before .before .part .ensures .value) (c .part2 .ensures .value); noted = c .part2 .ensures .noted }
+cost-returns t c =
+    let b2 = c .before .before in
+    let b4 = b2 .before .before in
+    let b5 = b4 .before in
+    let b6 = b5 .before in
+    let b8 = b6 .before .before in
+    record {
+      value = operator-joined (b8 .pre .1 .0 .formed .node (b8 .args .n) (b8 .pre .1 .0 .inside)) (b8 .args .sum) (sym (b5 .form-of .ensures) ∙ b4 .if1 .taken) (b6 .add .ensures)
+          (b2 .part .ensures .value) (c .part2 .ensures .value);
+      noted = c .part2 .ensures .noted;
+    }
 
 cost-body-requires : (t : ℕ) → cost-lts.Need-body-requires (cost-calls t) (cost-at t) cost.Post
-cost-body-requires t c κs = (omega (arith, c .before .before .before .before .before .pre .0), (c .before .before .before .before .before .pre .1 .0, within _ (c .before .before .before .add .ensures)))
+cost-body-requires t c κs =
+    let b3 = c .before .before .before in
+    let b5 = b3 .before .before in
+    (omega (arith, b5 .pre .0), (b5 .pre .1 .0, within _ (b3 .add .ensures)))
 
 cost-part-requires-3 : (t : ℕ) → cost-lts.Need-part-requires-3 (cost-calls t) (cost-at t) cost.Post
-cost-part-requires-3 t c κs = (omega (arith, c .before .before .before .before .before .before .before .pre .0), (omega arith, goes-on (c .before .before .before .before .before .before .before .pre .1 .0) (c .before .body .ensures), at-most (c .before .body .ensures)))
+cost-part-requires-3 t c κs =
+    let b7 = c .before .before .before .before .before .before .before in
+    (omega (arith, b7 .pre .0), (omega arith, goes-on (b7 .pre .1 .0) (c .before .body .ensures), at-most (c .before .body .ensures)))
 
 cost-part-requires-4 : (t : ℕ) → cost-lts.Need-part-requires-4 (cost-calls t) (cost-at t) cost.Post
-cost-part-requires-4 t c κs = (omega (arith, c .before .before .before .before .before .before .before .before .before .pre .0), (omega arith, goes-on (c .before .before .before .before .before .before .before .before .before .pre .1 .0) (c .before .part3 .ensures), at-most (c .before .part3 .ensures)))
+cost-part-requires-4 t c κs =
+    let b9 = c .before .before .before .before .before .before .before .before .before in
+    (omega (arith, b9 .pre .0), (omega arith, goes-on (b9 .pre .1 .0) (c .before .part3 .ensures), at-most (c .before .part3 .ensures)))
 
 cost-part-requires-5 : (t : ℕ) → cost-lts.Need-part-requires-5 (cost-calls t) (cost-at t) cost.Post
-cost-part-requires-5 t c κs = (omega (arith, c .before .before .before .before .before .before .before .before .before .before .before .pre .0), (omega arith, goes-on (c .before .before .before .before .before .before .before .before .before .before .before .pre .1 .0) (c .before .part4 .ensures), at-most (c .before .part4 .ensures)))
+cost-part-requires-5 t c κs =
+    let b11 = c .before .before .before .before .before .before .before .before .before .before .before in
+    (omega (arith, b11 .pre .0), (omega arith, goes-on (b11 .pre .1 .0) (c .before .part4 .ensures), at-most (c .before .part4 .ensures)))
 
 cost-part-requires-6 : (t : ℕ) → cost-lts.Need-part-requires-6 (cost-calls t) (cost-at t) cost.Post
-cost-part-requires-6 t c κs = (omega (arith, c .before .before .before .before .before .before .before .before .before .before .before .before .before .pre .0), (omega arith, goes-on (c .before .before .before .before .before .before .before .before .before .before .before .before .before .pre .1 .0) (c .before .part5 .ensures), at-most (c .before .part5 .ensures)))
+cost-part-requires-6 t c κs =
+    let b13 = c .before .before .before .before .before .before .before .before .before .before .before .before .before in
+    (omega (arith, b13 .pre .0), (omega arith, goes-on (b13 .pre .1 .0) (c .before .part5 .ensures), at-most (c .before .part5 .ensures)))
 
 cost-returns-2 : (t : ℕ) → cost-lts.Need-returns-2 (cost-calls t) (cost-at t) cost.Post
-cost-returns-2 t c = record { value = joined (c .before .before .before .before .before .before .before .before .before .before .before .before .before .before .pre .1 .0 .formed .node (c .before .before .before .before .before .before .before .before .before .before .before .before .before .before .args .n) (c .before .before .before .before .before .before .before .before .before .before .before .before .before .before .pre .1 .0 .inside)) (c .before .before .before .before .before .before .before .before .before .before .before .before .before .before .args .sum) (c .before .before .before .before .before .before .before .before .before .before .before .before .add .ensures) (c .before .before .before .before .before .before .before .before .body .ensures .value) (c .before .before .before .before .before .before .part3 .ensures .value) (c .before .before .before .before .part4 .ensures .value) (c .before .before .part5 .ensures .value) (c .part6 .ensures .value); noted = c .part6 .ensures .noted }
+cost-returns-2 t c =
+    let b2 = c .before .before in
+    let b4 = b2 .before .before in
+    let b6 = b4 .before .before in
+    let b8 = b6 .before .before in
+    let b12 = b8 .before .before .before .before in
+    let b14 = b12 .before .before in
+    record {
+      value = joined (b14 .pre .1 .0 .formed .node (b14 .args .n) (b14 .pre .1 .0 .inside)) (b14 .args .sum) (b12 .add .ensures) (b8 .body .ensures .value)
+          (b6 .part3 .ensures .value) (b4 .part4 .ensures .value) (b2 .part5 .ensures .value) (c .part6 .ensures .value);
+      noted = c .part6 .ensures .noted;
+    }
 
 noted-mul-note : (t : ℕ) → noted-lts.Need-mul-note (noted-calls t) (noted-at t) noted.Post
 noted-mul-note t c = search needs
@@ -191,29 +263,73 @@ part-cast-if1 t c = search needs
 part-operand-requires : (t : ℕ) → part-lts.Need-operand-requires (part-calls t) (part-at t) part.Post
 part-operand-requires t c κs = search needs
 
-part-mul-leaf : (t : ℕ) → part-lts.Need-mul-leaf (part-calls t) (part-at t) part.Post
-part-mul-leaf t c = omega (arith, c .operand .ensures, (c .before .before .before .before .pre .1 .1 .formed .node (c .before .before .before .before .args .n) (c .before .before .before .before .pre .1 .1 .inside) .operands (c .before .before .before .before .args .j) (c .before .before .before .before .pre .1 .0) (omega (arith, c .before .if1 .taken, c .before .before .width-of .ensures))))
+part-mul-is : (t : ℕ) → part-lts.Need-mul-is (part-calls t) (part-at t) part.Post
+part-mul-is t c =
+    let b2 = c .before .before in
+    let b4 = b2 .before .before in
+    omega (
+      arith,
+      c .operand .ensures,
+      (b4 .pre .1 .1 .formed .node (b4 .args .n) (b4 .pre .1 .1 .inside) .operands (b4 .args .j) (b4 .pre .1 .0)
+          (omega (arith, c .before .if1 .taken, b2 .width-of .ensures))),
+    )
 
-part-element-copy-out-leaf : (t : ℕ) → part-lts.Need-element-copy-out-leaf (part-calls t) (part-at t) part.Post
-part-element-copy-out-leaf t c = omega (arith, c .operand .ensures, (c .before .before .before .before .pre .1 .1 .formed .node (c .before .before .before .before .args .n) (c .before .before .before .before .pre .1 .1 .inside) .operands (c .before .before .before .before .args .j) (c .before .before .before .before .pre .1 .0) (omega (arith, c .before .if1 .taken, c .before .before .width-of .ensures))), c .before .before .before .before .pre .1 .1 .inside)
+part-element-copy-out-is : (t : ℕ) → part-lts.Need-element-copy-out-is (part-calls t) (part-at t) part.Post
+part-element-copy-out-is t c =
+    let b2 = c .before .before in
+    let b4 = b2 .before .before in
+    omega (
+      arith,
+      c .operand .ensures,
+      (b4 .pre .1 .1 .formed .node (b4 .args .n) (b4 .pre .1 .1 .inside) .operands (b4 .args .j) (b4 .pre .1 .0)
+          (omega (arith, c .before .if1 .taken, b2 .width-of .ensures))),
+      b4 .pre .1 .1 .inside,
+    )
 
-part-leaf-requires : (t : ℕ) → part-lts.Need-leaf-requires (part-calls t) (part-at t) part.Post
-part-leaf-requires t c κs = search needs
+part-is-requires : (t : ℕ) → part-lts.Need-is-requires (part-calls t) (part-at t) part.Post
+part-is-requires t c κs = search needs
 
 part-add-requires : (t : ℕ) → part-lts.Need-add-requires (part-calls t) (part-at t) part.Post
 part-add-requires t c κs = (c .before .before .before .before .before .before .before .pre .1 .2, omega arith)
 
 part-returns : (t : ℕ) → part-lts.Need-returns (part-calls t) (part-at t) part.Post
-part-returns t c = let m : c .before .before .before .before .operand .result < 256 = omega (arith, c .before .before .before .before .operand .ensures, (c .before .before .before .before .before .before .before .before .pre .1 .1 .formed .node (c .before .before .before .before .before .before .before .before .args .n) (c .before .before .before .before .before .before .before .before .pre .1 .1 .inside) .operands (c .before .before .before .before .before .before .before .before .args .j) (c .before .before .before .before .before .before .before .before .pre .1 .0) (omega (arith, c .before .before .before .before .before .if1 .taken, c .before .before .before .before .before .before .width-of .ensures))), c .before .before .before .before .before .before .before .before .pre .1 .1 .inside) in part-leaf (getD (c .before .before .before .before .before .before .before .before .args .ws .now) (c .before .before .before .before .before .before .before .before .args .n) 0) (c .before .before .before .before .before .before .before .before .args .j) (c .before .before .before .before .before .before .before .before .args .sum) (omega (arith, c .before .before .before .before .before .if1 .taken, c .before .before .before .before .before .before .width-of .ensures)) (c .before .before .before .before .operand .ensures) (c .before .before .before .before .before .before .before .before .pre .1 .1 .formed .node (c .before .before .before .before .operand .result) m) (leaf-of _ (sym (c .before .before .leaf .ensures) ∙ c .before .if2 .taken)) (c .add .ensures) (c .before .before .before .before .before .before .before .before .pre .1 .1 .noted)
+part-returns t c =
+    let b2 = c .before .before in
+    let b4 = b2 .before .before in
+    let b5 = b4 .before in
+    let b6 = b5 .before in
+    let b8 = b6 .before .before in
+    let m : b4 .operand .result < nodeLimit = omega (
+      arith,
+      b4 .operand .ensures,
+      (b8 .pre .1 .1 .formed .node (b8 .args .n) (b8 .pre .1 .1 .inside) .operands (b8 .args .j) (b8 .pre .1 .0)
+          (omega (arith, b5 .if1 .taken, b6 .width-of .ensures))),
+      b8 .pre .1 .1 .inside,
+    ) in part-leaf (getD (b8 .args .ws .now) (b8 .args .n) 0) (b8 .args .j) (b8 .args .sum)
+    (omega (arith, b5 .if1 .taken, b6 .width-of .ensures)) (b4 .operand .ensures) (b8 .pre .1 .1 .formed .node (b4 .operand .result) m)
+    (leaf-of _ (sym (b2 .is .ensures) ∙ c .before .if2 .taken)) (c .add .ensures) (b8 .pre .1 .1 .noted)
 
 part-cost-requires : (t : ℕ) → part-lts.Need-cost-requires (part-calls t) (part-at t) part.Post
-part-cost-requires t c κs = asks-cost (c .before .before .before .before .before .before .before .before .pre .0) (c .before .before .before .before .before .before .before .before .pre .1 .1) (c .before .before .before .before .operand .ensures) (c .before .before .before .before .before .before .before .before .pre .1 .1 .formed .node (c .before .before .before .before .before .before .before .before .args .n) (c .before .before .before .before .before .before .before .before .pre .1 .1 .inside) .operands (c .before .before .before .before .before .before .before .before .args .j) (c .before .before .before .before .before .before .before .before .pre .1 .0) (omega (arith, c .before .before .before .before .before .if1 .taken, c .before .before .before .before .before .before .width-of .ensures))) (c .before .before .before .before .before .before .before .before .pre .1 .2)
+part-cost-requires t c κs =
+    let b4 = c .before .before .before .before in
+    let b5 = b4 .before in
+    let b6 = b5 .before in
+    let b8 = b6 .before .before in
+    asks-cost (b8 .pre .0) (b8 .pre .1 .1) (b4 .operand .ensures)
+    (b8 .pre .1 .1 .formed .node (b8 .args .n) (b8 .pre .1 .1 .inside) .operands (b8 .args .j) (b8 .pre .1 .0) (omega (arith, b5 .if1 .taken, b6 .width-of .ensures))) (b8 .pre .1 .2)
 
 part-returns-2 : (t : ℕ) → part-lts.Need-returns-2 (part-calls t) (part-at t) part.Post
-part-returns-2 t c = part-some (getD (c .before .before .before .before .before .before .before .before .before .args .ws .now) (c .before .before .before .before .before .before .before .before .before .args .n) 0) (c .before .before .before .before .before .before .before .before .before .args .j) (c .before .before .before .before .before .before .before .before .before .args .sum) (omega (arith, c .before .before .before .before .before .before .if1 .taken, c .before .before .before .before .before .before .before .width-of .ensures)) (c .before .before .before .before .before .operand .ensures) (c .cost .ensures)
+part-returns-2 t c =
+    let b5 = c .before .before .before .before .before in
+    let b6 = b5 .before in
+    let b7 = b6 .before in
+    let b9 = b7 .before .before in
+    part-some (getD (b9 .args .ws .now) (b9 .args .n) 0) (b9 .args .j) (b9 .args .sum) (omega (arith, b6 .if1 .taken, b7 .width-of .ensures)) (b5 .operand .ensures) (c .cost .ensures)
 
 part-returns-3 : (t : ℕ) → part-lts.Need-returns-3 (part-calls t) (part-at t) part.Post
-part-returns-3 t c = part-none (getD (c .before .before .before .args .ws .now) (c .before .before .before .args .n) 0) (c .before .before .before .args .j) (c .before .before .before .args .sum) (omega (arith, c .if1 .left, c .before .width-of .ensures)) (c .before .before .before .pre .1 .1 .noted) (c .before .before .before .pre .1 .2)
+part-returns-3 t c =
+    let b3 = c .before .before .before in
+    part-none (getD (b3 .args .ws .now) (b3 .args .n) 0) (b3 .args .j) (b3 .args .sum) (omega (arith, c .if1 .left, c .before .width-of .ensures)) (b3 .pre .1 .1 .noted) (b3 .pre .1 .2)
 
 pub +body+cost+noted+part-spec : {M : Type 1} → statement M
 +body+cost+noted+part-spec = close μ-body μ-cost μ-noted μ-part (λ t. body-lts.spec (body-calls t)
@@ -266,9 +382,9 @@ pub +body+cost+noted+part-spec : {M : Type 1} → statement M
     (part-width-of-requires t)
     (part-cast-if1 t)
     (part-operand-requires t)
-    (part-mul-leaf t)
-    (part-element-copy-out-leaf t)
-    (part-leaf-requires t)
+    (part-mul-is t)
+    (part-element-copy-out-is t)
+    (part-is-requires t)
     (part-add-requires t)
     (part-returns t)
     (part-cost-requires t)

@@ -58,7 +58,8 @@ loop-again c =
       filled-more (λ (j : ℕ). result (operatorOf (s .args .o)) (getD (s .args .xs .now) j (pos 0)) (getD (s .args .ys .now) j (pos 0))) (l .k) (l .out) _ (omega arith) (l .inv .1)
           (toZ-ofZ w32 (c .operate .result) (sfits-of (c .operate .ok))
           ∙ c .operate .ensures
-          ∙ both-read (result (operatorOf (s .args .o))) (getD (s .args .xs .now) (l .k) (pos 0)) (getD (s .args .ys .now) (l .k) (pos 0)) (sfits-of (c .before .before .operate-arg .given)) (sfits-of (c .before .operate-arg2 .given))),
+          ∙ both-read (result (operatorOf (s .args .o))) (getD (s .args .xs .now) (l .k) (pos 0)) (getD (s .args .ys .now) (l .k) (pos 0))
+          (sfits-of (c .before .before .operate-arg .given)) (sfits-of (c .before .operate-arg2 .given))),
     )
 
 returns : tie.Need-returns Inv-loop μ-loop

@@ -11,36 +11,28 @@ use mir.ValLaws.{toZ-ofZ}
 use Rattle.number.specs.Number.{over}
 use Rattle.arith.proofs.Signs.{both-read}
 use Rattle.domain.specs.Members.{members, anyZero}
-use Rattle.domain.proofs.Laws.{size-members, some-left, none-left, left-next}
+use Rattle.domain.proofs.Laws.{none-in}
 use Rattle.domain.proofs.Fields.{no-zero, no-zero-after, quotient, Walked, walked-none, walked-more, walked-all}
 use Rattle.domain.proofs.each_div.Statement.{statement}
 use Rattle.domain.proofs.each_div.Tie as tie
 
 abbrev Inv-loop : tie.InvT-loop
-Inv-loop dom xs ys z out₀ rest₀ left₀ out rest left = (left ≡ length (members rest)) × (anyZero (members rest) ys ≡ false) × Walked (quotient xs ys) dom rest out
+Inv-loop dom xs ys z out₀ rest₀ out rest = (anyZero (members rest) ys ≡ false) × Walked (quotient xs ys) dom rest out
 
 abbrev μ-loop : tie.MeasureT-loop
-μ-loop dom xs ys z out₀ rest₀ left₀ out rest left = left
-
-size-requires : tie.Need-size-requires Inv-loop μ-loop
-size-requires c κs = search needs
+μ-loop dom xs ys z out₀ rest₀ out rest = rest
 
 loop-holds : tie.Need-loop-holds Inv-loop μ-loop
-loop-holds c =
-    let s = c .before in (
-      c .size .ensures ∙ size-members (s .args .dom) (s .fits .dom .fits),
-      s .pre,
-      walked-none (quotient (s .args .xs .now) (s .args .ys .now)) (s .args .dom) (replicate 16 (pos 0)) refl,
-    )
+loop-holds c = (
+  c .pre,
+  walked-none (quotient (c .args .xs .now) (c .args .ys .now)) (c .args .dom) (replicate 16 (pos 0)) refl,
+)
 
 lowest-requires : tie.Need-lowest-requires Inv-loop μ-loop
-lowest-requires c κs = some-left (c .before .loop .rest) (c .before .loop .left) (c .before .loop .inv .0) (omega arith)
+lowest-requires c κs = omega arith
 
 without-requires : tie.Need-without-requires Inv-loop μ-loop
-without-requires c κs = some-left (c .before .before .loop .rest) (c .before .before .loop .left) (c .before .before .loop .inv .0) (omega arith)
-
-sub-left : tie.Need-sub-left Inv-loop μ-loop
-sub-left c = omega arith
+without-requires c κs = omega arith
 
 mul-div : tie.Need-mul-div Inv-loop μ-loop
 mul-div c = search needs
@@ -59,9 +51,9 @@ div-requires c κs =
     let l = c .before .before .before .before .before .loop in
     let k = c .before .before .before .lowest in
     let w = c .before .before .without in
-    let xs = c .before .before .before .before .before .before .before .args .xs .now in
-    let ys = c .before .before .before .before .before .before .before .args .ys .now in
-    λ e. no-zero (l .rest) (w .result) (k .result) _ (k .ensures .1) (w .ensures .1) ys (l .inv .1) (sym (toZ-ofZ w32 (getD ys (k .result) (pos 0)) (sfits-of (c .div-arg2 .given))) ∙ e)
+    let xs = c .before .before .before .before .before .before .args .xs .now in
+    let ys = c .before .before .before .before .before .before .args .ys .now in
+    λ e. no-zero (l .rest) (w .result) (k .result) _ (k .ensures .1) (w .ensures .1) ys (l .inv .0) (sym (toZ-ofZ w32 (getD ys (k .result) (pos 0)) (sfits-of (c .div-arg2 .given))) ∙ e)
 
 mul-out : tie.Need-mul-out Inv-loop μ-loop
 mul-out c = search needs
@@ -70,29 +62,29 @@ array-set-from-out : tie.Need-array-set-from-out Inv-loop μ-loop
 array-set-from-out c = c .before .before .before .before .lowest .ensures .0
 
 loop-less : tie.Need-loop-less Inv-loop μ-loop
-loop-less c = omega arith
+loop-less c = c .before .before .before .without .ensures .0
 
 loop-again : tie.Need-loop-again Inv-loop μ-loop
 loop-again c =
     let l = c .before .before .before .before .before .before .loop in
     let k = c .before .before .before .before .lowest in
     let w = c .before .before .before .without in
-    let xs = c .before .before .before .before .before .before .before .before .args .xs .now in
-    let ys = c .before .before .before .before .before .before .before .before .args .ys .now in
+    let xs = c .before .before .before .before .before .before .before .args .xs .now in
+    let ys = c .before .before .before .before .before .before .before .args .ys .now in
     let v =
     toZ-ofZ w32 (c .div .result) (sfits-of (c .div .ok))
     ∙ c .div .ensures
     ∙ both-read over (getD xs (k .result) (pos 0)) (getD ys (k .result) (pos 0)) (sfits-of (c .before .before .div-arg .given)) (sfits-of (c .before .div-arg2 .given)) in (
-      left-next (l .rest) (w .result) _ (w .ensures .1) (l .left) (l .inv .0),
-      no-zero-after (l .rest) (w .result) (k .result) _ (k .ensures .1) (w .ensures .1) ys (l .inv .1),
-      walked-more (quotient xs ys) (c .before .before .before .before .before .before .before .before .args .dom) (l .rest) (w .result) (k .result) _ (l .out) _ (k .ensures .1) (w .ensures .1) (k .ensures .0) v (l .inv .2),
+      no-zero-after (l .rest) (w .result) (k .result) _ (k .ensures .1) (w .ensures .1) ys (l .inv .0),
+      walked-more (quotient xs ys) (c .before .before .before .before .before .before .before .args .dom) (l .rest) (w .result) (k .result) _ (l .out) _ (k .ensures .1) (w .ensures .1)
+          (k .ensures .0) v (l .inv .1),
     )
 
 returns : tie.Need-returns Inv-loop μ-loop
 returns c =
     let l = c .before .loop in
-    let s = c .before .before .before in
-    walked-all (quotient (s .args .xs .now) (s .args .ys .now)) (s .args .dom) (l .rest) (l .out) (none-left (l .rest) (l .left) (l .inv .0) (omega arith)) (l .inv .2)
+    let s = c .before .before in
+    walked-all (quotient (s .args .xs .now) (s .args .ys .now)) (s .args .dom) (l .rest) (l .out) (none-in (l .rest) (c .loop-test .left)) (l .inv .1)
 
 pub each-div-spec : {M : Type 1} → statement M
 each-div-spec =
@@ -100,11 +92,9 @@ each-div-spec =
     (tie.spec
     Inv-loop
     μ-loop
-    size-requires
     loop-holds
     lowest-requires
     without-requires
-    sub-left
     mul-div
     element-copy-out-div
     mul-div-2

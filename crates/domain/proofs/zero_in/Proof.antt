@@ -48,7 +48,8 @@ returns c =
     let k = c .before .before .before .lowest in
     let w = c .before .before .without in
     let ys = c .before .before .before .before .before .before .before .args .ys .now in
-    sym (zero-found (l .rest) (w .result) (k .result) _ (k .ensures .1) (w .ensures .1) ys (same-bits w32 (getD ys (k .result) (pos 0)) (pos 0) (sfits-of (c .before .if12 .given)) (sfits-lit tt) (c .if1 .taken)))
+    sym (zero-found (l .rest) (w .result) (k .result) _ (k .ensures .1) (w .ensures .1) ys
+    (same-bits w32 (getD ys (k .result) (pos 0)) (pos 0) (sfits-of (c .before .if12 .given)) (sfits-lit tt) (c .if1 .taken)))
     ∙ l .inv .1
 
 loop-less : tie.Need-loop-less Inv-loop μ-loop

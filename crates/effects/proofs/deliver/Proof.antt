@@ -7,8 +7,8 @@ use mir.Val.{ofZ}
 use denote.Ref.{now}
 use Rattle.event.specs.Event.{deliver}
 use Rattle.event.specs.Step.{refusal}
-use Rattle.places.proofs.Devices.{Pair}
-use Rattle.effects.proofs.Refusals.{turned-by, done, pair}
+use Rattle.event.proofs.Devices.{Pair}
+use Rattle.effects.proofs.Refusals.{turned-by, carried-out, two-devices}
 use Rattle.effects.proofs.deliver.Statement.{statement}
 use Rattle.effects.proofs.deliver.Tie as tie
 
@@ -16,7 +16,7 @@ passes : (c : tie.Else1) → refusal (now (c .before .before .before .args .net)
 passes c = sym (ap (ofZ w32) (c .before .message-refusal .ensures)) ∙ c .if1 .left
 
 two : (c : tie.Else1) → Pair (c .before .before .before .args .a) (c .before .before .before .args .b)
-two c = pair _ _ _ (passes c)
+two c = two-devices _ _ _ (passes c)
 
 message-refusal-requires : tie.Need-message-refusal-requires
 message-refusal-requires c κs = search needs
@@ -29,7 +29,8 @@ same-length c = search needs
 
 returns : tie.Need-returns
 returns c =
-    turned-by _ _ _ (c .before .before .message-refusal .result) (sfits-of (c .before .before .message-refusal .ok)) (c .before .before .message-refusal .ensures) (c .before .if1 .taken) (c .answered .ensures)
+    turned-by _ _ _ (c .before .before .message-refusal .result) (sfits-of (c .before .before .message-refusal .ok)) (c .before .before .message-refusal .ensures)
+    (c .before .if1 .taken) (c .answered .ensures)
 
 pending-to-requires : tie.Need-pending-to-requires
 pending-to-requires c κs = let p = two c in omega arith
@@ -46,10 +47,11 @@ add-copy-row-2 c = search needs
 copy-row-requires : tie.Need-copy-row-requires
 copy-row-requires c κs =
     let p = two (c .before .before .before) in
-    (omega (arith, c .before .before .pending-to .ensures), omega (arith, c .before .heard-from .ensures), λ i j h k e. omega (arith, c .before .before .pending-to .ensures, c .before .heard-from .ensures))
+    (omega (arith, c .before .before .pending-to .ensures), omega (arith, c .before .heard-from .ensures))
 
 no-message-requires : tie.Need-no-message-requires
-no-message-requires c κs = let p = two (c .before .before .before .before .before .before) in omega (arith, c .before .before .before .before .heard-from .ensures, c .before .before .before .before .before .pending-to .ensures)
+no-message-requires c κs = let p = two (c .before .before .before .before .before .before) in omega
+    (arith, c .before .before .before .before .heard-from .ensures, c .before .before .before .before .before .pending-to .ensures)
 
 answered-requires-2 : tie.Need-answered-requires-2
 answered-requires-2 c κs = search needs
@@ -59,8 +61,12 @@ same-length-2 c = search needs
 
 returns-2 : tie.Need-returns-2
 returns-2 c =
-    done _ _ _ _ (passes (c .before .before .before .before .before .before .before .before .before))
-    (λ main. c .before .before .no-message .ensures ∙ rw (c .before .before .before .before .before .copy-row .ensures, c .before .before .before .before .before .before .before .heard-from .ensures, c .before .before .before .before .before .before .before .before .pending-to .ensures))
+    carried-out _ _ _ _ (passes (c .before .before .before .before .before .before .before .before .before))
+    (λ main. c .before .before .no-message .ensures ∙ rw (
+      c .before .before .before .before .before .copy-row .ensures,
+      c .before .before .before .before .before .before .before .heard-from .ensures,
+      c .before .before .before .before .before .before .before .before .pending-to .ensures,
+    ))
     (λ main. c .answered2 .ensures)
 
 pub deliver-spec : {M : Type 1} → statement M

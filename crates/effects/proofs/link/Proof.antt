@@ -11,8 +11,9 @@ use Rattle.network.specs.Network.{isDistance}
 use Rattle.event.specs.Event.{link}
 use Rattle.event.specs.Step.{isDevice, outOfRange, heardFrom}
 use Rattle.network.proofs.Stores.{store-one}
-use Rattle.places.proofs.Devices.{Pair, pair-of, said-no, said-yes}
-use Rattle.effects.proofs.Refusals.{turned, done, is-14, is-15, is-0}
+use Rattle.event.proofs.Devices.{Pair, pair-of}
+use Rattle.decide.proofs.Picks.{said-no, said-yes}
+use Rattle.effects.proofs.Refusals.{turned, carried-out, is-14, is-15, is-0}
 use Rattle.effects.proofs.link.Statement.{statement}
 use Rattle.effects.proofs.link.Tie as tie
 
@@ -71,7 +72,7 @@ same-length c = search needs
 returns-4 : tie.Need-returns-4
 returns-4 c =
     let s = c .before .before .before .before .before .before .before in
-    done _ _ _ _ (is-0 _ _ (in-range (c .before .before .before)) (ne-eqb _ _ (c .before .before .if3 .left)) refl)
+    carried-out _ _ _ _ (is-0 _ _ (in-range (c .before .before .before)) (ne-eqb _ _ (c .before .before .if3 .left)) refl)
     (λ main. rw (c .before .heard-from .ensures, toZ-ofZ w32 (s .args .distance) (s .fits .distance))
     (store-one (now (s .args .net)) (heardFrom (s .args .a) (s .args .b)) (s .args .distance)))
     (λ main. c .answered4 .ensures)

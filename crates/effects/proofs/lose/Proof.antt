@@ -8,8 +8,8 @@ use mir.Val.{ofZ}
 use denote.Ref.{now}
 use Rattle.event.specs.Event.{deliver}
 use Rattle.event.specs.Step.{refusal}
-use Rattle.places.proofs.Devices.{Pair}
-use Rattle.effects.proofs.Refusals.{turned-by, done, pair, same-refusal}
+use Rattle.event.proofs.Devices.{Pair}
+use Rattle.effects.proofs.Refusals.{turned-by, carried-out, two-devices, same-refusal}
 use Rattle.effects.proofs.lose.Statement.{statement}
 use Rattle.effects.proofs.lose.Tie as tie
 
@@ -17,7 +17,7 @@ passes : (c : tie.Else1) → refusal (now (c .before .before .before .args .net)
 passes c = sym (ap (ofZ w32) (c .before .message-refusal .ensures)) ∙ c .if1 .left
 
 two : (c : tie.Else1) → Pair (c .before .before .before .args .a) (c .before .before .before .args .b)
-two c = pair _ _ _ (passes c)
+two c = two-devices _ _ _ (passes c)
 
 message-refusal-requires : tie.Need-message-refusal-requires
 message-refusal-requires c κs = search needs
@@ -30,7 +30,8 @@ same-length c = search needs
 
 returns : tie.Need-returns
 returns c =
-    turned-by _ _ _ (c .before .before .message-refusal .result) (sfits-of (c .before .before .message-refusal .ok)) (c .before .before .message-refusal .ensures ∙ ap pos (sym (same-refusal _ _ _))) (c .before .if1 .taken) (c .answered .ensures)
+    turned-by _ _ _ (c .before .before .message-refusal .result) (sfits-of (c .before .before .message-refusal .ok))
+    (c .before .before .message-refusal .ensures ∙ ap pos (sym (same-refusal _ _ _))) (c .before .if1 .taken) (c .answered .ensures)
 
 pending-to-requires : tie.Need-pending-to-requires
 pending-to-requires c κs = let p = two (c .before) in omega arith
@@ -46,7 +47,8 @@ same-length-2 c = search needs
 
 returns-2 : tie.Need-returns-2
 returns-2 c =
-    done _ _ _ _ (same-refusal _ _ _ ∙ passes (c .before .before .before .before .before)) (λ main. c .before .before .no-message .ensures ∙ rw (c .before .before .before .pending-to .ensures)) (λ main. c .answered2 .ensures)
+    carried-out _ _ _ _ (same-refusal _ _ _ ∙ passes (c .before .before .before .before .before))
+    (λ main. c .before .before .no-message .ensures ∙ rw (c .before .before .before .pending-to .ensures)) (λ main. c .answered2 .ensures)
 
 pub lose-spec : {M : Type 1} → statement M
 lose-spec =

@@ -12,7 +12,8 @@ use mir.Facts.{toZ-ofZ}
 use denote.Ref.{now}
 use Rattle.event.specs.Step.{isDevice}
 use Rattle.arith.proofs.Signs.{eqZ-yes, eqZ-no}
-use Rattle.places.proofs.Devices.{Pair, pair-of, said-no, said-yes}
+use Rattle.event.proofs.Devices.{Pair, pair-of}
+use Rattle.decide.proofs.Picks.{said-no, said-yes}
 use Rattle.effects.proofs.Refusals.{is-14, is-15, is-16, is-0}
 use Rattle.effects.proofs.message_refusal.Statement.{statement}
 use Rattle.effects.proofs.message_refusal.Tie as tie

@@ -13,8 +13,9 @@ use denote.Ref.{now}
 use Rattle.event.specs.Event.{signal}
 use Rattle.event.specs.Step.{isDevice, outOfRange, sensorsOf, digitSet}
 use Rattle.network.proofs.Stores.{store-one}
-use Rattle.places.proofs.Devices.{device, said-no, said-yes}
-use Rattle.effects.proofs.Refusals.{turned, done, is-14, is-0}
+use Rattle.event.proofs.Devices.{device}
+use Rattle.decide.proofs.Picks.{said-no, said-yes}
+use Rattle.effects.proofs.Refusals.{turned, carried-out, is-14, is-0}
 use Rattle.effects.proofs.Digit.{Plain, plain}
 use Rattle.effects.proofs.signal.Statement.{statement}
 use Rattle.effects.proofs.signal.Tie as tie
@@ -22,8 +23,14 @@ use Rattle.effects.proofs.signal.Tie as tie
 a-is : (c : tie.Else1) → isDevice (c .before .before .args .a) ≡ true
 a-is c = said-yes (c .before .is-device .ensures) (c .if1 .left)
 
-in-range : (c : tie.Else3) → outOfRange (signal (c .before .before .before .before .args .a) (c .before .before .before .before .args .sensor) (c .before .before .before .before .args .switch)) ≡ false
-in-range c = rw (a-is (c .before .before), le-leb (c .before .before .before .before .args .sensor) 15 (c .before .if2 .left), le-leb (c .before .before .before .before .args .switch) 1 (c .if3 .left))
+in-range : (c : tie.Else3) → outOfRange (signal (c .before .before .before .before .args .a) (c .before .before .before .before .args .sensor)
+    (c .before .before .before .before .args .switch)) ≡ false
+in-range c = rw (
+  a-is (c .before .before),
+  le-leb (c .before .before .before .before .args .sensor) 15 (c .before .if2 .left),
+  le-leb (c .before .before .before .before .args .switch) 1
+      (c .if3 .left),
+)
 
 -- the cell, as it is read
 abbrev cell : tie.After-digit-set-arg → ℤ
@@ -56,7 +63,12 @@ answered-requires-3 c κs = search needs
 
 returns-3 : tie.Need-returns-3
 returns-3 c =
-    turned _ _ _ 14 (is-14 _ _ (rw (a-is (c .before .before .before), le-leb (c .before .before .before .before .before .args .sensor) 15 (c .before .before .if2 .left), lt-leb (c .before .before .before .before .before .args .switch) 1 (c .before .if3 .taken)))) (λ z. omega arith) (c .answered3 .ensures)
+    turned _ _ _ 14 (is-14 _ _ (rw (
+      a-is (c .before .before .before),
+      le-leb (c .before .before .before .before .before .args .sensor) 15 (c .before .before .if2 .left),
+      lt-leb
+          (c .before .before .before .before .before .args .switch) 1 (c .before .if3 .taken),
+    ))) (λ z. omega arith) (c .answered3 .ensures)
 
 sensors-of-requires : tie.Need-sensors-of-requires
 sensors-of-requires c κs = device _ (a-is (c .before .before)) .0
@@ -80,7 +92,12 @@ mul-t14 : tie.Need-mul-t14
 mul-t14 c = search needs
 
 slice-set-from-net : tie.Need-slice-set-from-net
-slice-set-from-net c = omega (arith, c .before .before .sensors-of .ensures, device (c .before .before .before .before .before .before .before .args .a) (a-is (c .before .before .before .before .before)))
+slice-set-from-net c = omega (
+  arith,
+  c .before .before .sensors-of .ensures,
+  device (c .before .before .before .before .before .before .before .args .a)
+      (a-is (c .before .before .before .before .before)),
+)
 
 answered-requires-4 : tie.Need-answered-requires-4
 answered-requires-4 c κs = search needs
@@ -91,8 +108,14 @@ same-length c = search needs
 returns-4 : tie.Need-returns-4
 returns-4 c =
     let s = c .before .before .before .before .before .before .before .before in
-    done _ _ _ _ (is-0 _ _ (in-range (c .before .before .before .before)) refl refl)
-    (λ main. rw (toZ-ofZ w32 (pos (c .before .digit-set .result)) (record { sfits = c .before .digit-set .ensures .1 }), c .before .digit-set .ensures .0, toZ-ofZ w32 (cell (c .before .before)) (fits (c .before .before)), c .before .before .before .sensors-of .ensures)
+    carried-out _ _ _ _ (is-0 _ _ (in-range (c .before .before .before .before)) refl refl)
+    (λ main. rw (
+      toZ-ofZ w32 (pos (c .before .digit-set .result)) (record { sfits = c .before .digit-set .ensures .1 }),
+      c .before .digit-set .ensures .0,
+      toZ-ofZ w32
+          (cell (c .before .before)) (fits (c .before .before)),
+      c .before .before .before .sensors-of .ensures,
+    )
     (store-one (now (s .args .net)) (sensorsOf (s .args .a)) (pos (digitSet (s .args .sensor) (s .args .switch) (natAbs (getD (now (s .args .net)) (sensorsOf (s .args .a)) (pos 0)))))))
     (λ main. c .answered4 .ensures)
 

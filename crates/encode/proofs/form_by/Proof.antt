@@ -1,5 +1,8 @@
 -- `encode::form_by` meets its contract. Assumes nothing.
-use Rattle.encode.proofs.Digits.{form-digit}
+use Rattle.shapes.specs.Kinds.{callKind}
+use Rattle.shapes.proofs.ByKind.{past}
+use native.Mathlib.Omega.{arith}
+use mathlib.Core.Path.{_≡_}
 use borrow.Author.Needs.{needs}
 use Rattle.encode.proofs.form_by.Statement.{statement}
 use Rattle.encode.proofs.form_by.Tie as tie
@@ -7,40 +10,72 @@ use Rattle.encode.proofs.form_by.Tie as tie
 pick-requires : tie.Need-pick-requires
 pick-requires c κs = search needs
 
-returns : tie.Need-returns
-returns c = rw (c .before .if1 .taken) (c .pick .ensures)
-
 pick-requires-2 : tie.Need-pick-requires-2
 pick-requires-2 c κs = search needs
 
+returns : tie.Need-returns
+returns c = search needs
+
 returns-2 : tie.Need-returns-2
-returns-2 c = rw (c .before .if2 .taken) (c .pick2 .ensures)
-
-mul-result : tie.Need-mul-result
-mul-result c = search needs
-
-cast-result : tie.Need-cast-result
-cast-result c = search needs
-
-shr-result : tie.Need-shr-result
-shr-result c = search needs
-
-cast-result-2 : tie.Need-cast-result-2
-cast-result-2 c = search needs
+returns-2 c = search needs
 
 returns-3 : tie.Need-returns-3
-returns-3 c = form-digit (c .before .before .args .kind) (c .before .before .args .side) (c .before .before .args .branch) (c .before .before .pre) (c .before .if1 .left) (c .if2 .left)
+returns-3 c = search needs
+
+returns-4 : tie.Need-returns-4
+returns-4 c = rw (c .before .match .keys4) (c .pick .ensures)
+
+returns-5 : tie.Need-returns-5
+returns-5 c = search needs
+
+returns-6 : tie.Need-returns-6
+returns-6 c = search needs
+
+returns-7 : tie.Need-returns-7
+returns-7 c = rw (c .before .match .keys7) (c .pick2 .ensures)
+
+returns-8 : tie.Need-returns-8
+returns-8 c = search needs
+
+returns-9 : tie.Need-returns-9
+returns-9 c = search needs
+
+returns-10 : tie.Need-returns-10
+returns-10 c = search needs
+
+returns-11 : tie.Need-returns-11
+returns-11 c = search needs
+
+returns-12 : tie.Need-returns-12
+returns-12 c = search needs
+
+returns-13 : tie.Need-returns-13
+returns-13 c =
+    let e : c .before .args .kind ≡ callKind = omega (
+      arith,
+      c .before .pre,
+      (past (past (past (past (past (past (past (past (past (past (past (past (omega arith) (c .match .rest .0 .0 .0 .0 .0 .0 .0 .0 .0 .0 .0 .1))
+          (c .match .rest .0 .0 .0 .0 .0 .0 .0 .0 .0 .0 .1)) (c .match .rest .0 .0 .0 .0 .0 .0 .0 .0 .0 .1)) (c .match .rest .0 .0 .0 .0 .0 .0 .0 .0 .1))
+          (c .match .rest .0 .0 .0 .0 .0 .0 .0 .1)) (c .match .rest .0 .0 .0 .0 .0 .0 .1)) (c .match .rest .0 .0 .0 .0 .0 .1)) (c .match .rest .0 .0 .0 .0 .1))
+          (c .match .rest .0 .0 .0 .1)) (c .match .rest .0 .0 .1)) (c .match .rest .0 .1)) (c .match .rest .1)),
+    ) in rw e
 
 pub form-by-spec : {M : Type 1} → statement M
 form-by-spec =
     tie.close
     (tie.spec
     pick-requires
-    returns
     pick-requires-2
+    returns
     returns-2
-    mul-result
-    cast-result
-    shr-result
-    cast-result-2
-    returns-3)
+    returns-3
+    returns-4
+    returns-5
+    returns-6
+    returns-7
+    returns-8
+    returns-9
+    returns-10
+    returns-11
+    returns-12
+    returns-13)

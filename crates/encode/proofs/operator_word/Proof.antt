@@ -49,7 +49,9 @@ add-result : tie.Need-add-result
 add-result c = search needs
 
 returns : tie.Need-returns
-returns c = λ t. operator-is _ _ t (c .before .before .before .before .pre .0) (c .before .before .before .before .pre .1) (c .before .before .before .before .pre .2) (omega arith) (omega arith) (omega arith) (c .pick .ensures) refl
+returns c =
+    let b4 = c .before .before .before .before in
+    λ t. operator-is _ _ t (b4 .pre .0) (b4 .pre .1) (b4 .pre .2) (omega arith) (omega arith) (omega arith) (c .pick .ensures) refl
 
 pub operator-word-spec : {M : Type 1} → statement M
 operator-word-spec =

@@ -18,7 +18,13 @@ item-by-requires : tie.Need-item-by-requires
 item-by-requires c κs = search needs
 
 parts-word-requires : tie.Need-parts-word-requires
-parts-word-requires c κs = let s = c .before .before .before .before in (rw (c .before .form-by .ensures) (form-fits (s .args .x .kind) (s .args .side) (s .args .branch) (s .pre .kind)), rw (c .item-by .ensures) (s .pre .item), omega arith)
+parts-word-requires c κs =
+    let b4 = c .before .before .before .before in
+    let s = b4 in (
+      rw (c .before .form-by .ensures) (form-fits (s .args .x .kind) (s .args .side) (s .args .branch) (s .pre .kind)),
+      rw (c .item-by .ensures) (s .pre .item),
+      omega arith,
+    )
 
 returns-2 : tie.Need-returns-2
 returns-2 c = worded (c .before .before .before .if1 .left) (c .before .before .form-by .ensures) (c .before .item-by .ensures) (c .parts-word .ensures)

@@ -56,7 +56,12 @@ same-length-2 : tie.Need-same-length-2 Inv-loop μ-loop
 same-length-2 c = search needs
 
 returns-2 : tie.Need-returns-2 Inv-loop μ-loop
-returns-2 c = start (c .before .before .before .before .before .before .before .before .before .before .loop .at) (putMid (c .before .before .before .before .before .before .before .before .before .before .loop .at) (length (c .before .before .before .before .before .before .before .before .before .before .loop .buf) - c .before .before .before .before .before .before .before .before .before .before .loop .at) (c .before .before .before .before .before .before .before .before .before .before .loop .buf) (c .before .before .before .before .before .before .before .read .last .1 .0)) (search needs)
+returns-2 c = start (c .before .before .before .before .before .before .before .before .before .before .loop .at)
+    (putMid (c .before .before .before .before .before .before .before .before .before .before .loop .at)
+    (length (c .before .before .before .before .before .before .before .before .before .before .loop .buf) -
+    c .before .before .before .before .before .before .before .before .before .before .loop .at)
+    (c .before .before .before .before .before .before .before .before .before .before .loop .buf) (c .before .before .before .before .before .before .before .read .last .1 .0))
+    (search needs)
 
 add-at : tie.Need-add-at Inv-loop μ-loop
 add-at c = search needs

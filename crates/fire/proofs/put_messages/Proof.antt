@@ -1,26 +1,34 @@
 -- `fire::put_messages` meets its contract. Assumes nothing.
 use mathlib.Core.Path.{_≡_, refl}
+use mathlib.Core.List.{List}
 use Prim.Native.Nat.{ℕ, _+_, _-_, _*_, _≤_}
 use native.Mathlib.Omega.{arith}
 use borrow.Author.Needs.{needs}
 use lib.ListN.{length}
+use lib.IntN.{ℤ}
 use Rattle.field.specs.Field.{from}
 use Rattle.round.specs.Round.{message, joined}
-use Rattle.step.specs.State.{stateOf}
+use Rattle.apply.specs.State.{stateOf}
 use Rattle.network.proofs.Stores.{length-store}
-use Rattle.fire.proofs.Rows.{Stored, none-yet, row-more, joined-more, joined-length}
-use Rattle.fire.proofs.Rounds.{message-length, sent-length}
+use Rattle.effects.proofs.Rows.{joined-length}
+use Rattle.effects.proofs.Idle.{message-length}
+use Rattle.fire.proofs.Rows.{Stored, none-yet, row-more, joined-more}
+use Rattle.fire.proofs.Rounds.{sent-length, idle-behind}
 use Rattle.fire.proofs.put_messages.Statement.{statement}
 use Rattle.fire.proofs.put_messages.Tie as tie
 
 abbrev Inv-loop : tie.InvT-loop
-Inv-loop net₀ at here st m none b₀ net b = (b ≤ 16) × (length net ≡ length net₀) × Stored net₀ at (joined (from 1 b (message here (stateOf st)))) net
+Inv-loop net₀ at here st b₀ net b = (b ≤ 16) × (length net ≡ length net₀) × Stored net₀ at (joined (from 1 b (message here (stateOf st)))) net
 
 abbrev μ-loop : tie.MeasureT-loop
-μ-loop net₀ at here st m none b₀ net b = 16 - b
+μ-loop net₀ at here st b₀ net b = 16 - b
 
-array-set-of-none : tie.Need-array-set-of-none Inv-loop μ-loop
-array-set-of-none c = search needs
+-- the message to each device, and its length
+abbrev messages : tie.Start Inv-loop μ-loop → ℕ → List ℤ
+messages s = message (s .args .here .now) (stateOf (s .args .st .now))
+
+row-of : (s : tie.Start Inv-loop μ-loop) (b : ℕ) → length (messages s b) ≡ 16
+row-of s b = message-length (s .args .here .now) (stateOf (s .args .st .now)) b (sent-length (s .args .st .now) (s .pre .1))
 
 loop-holds : tie.Need-loop-holds Inv-loop μ-loop
 unfolding joined from
@@ -33,7 +41,11 @@ add-put-message : tie.Need-add-put-message Inv-loop μ-loop
 add-put-message c = search needs
 
 put-message-requires : tie.Need-put-message-requires Inv-loop μ-loop
-put-message-requires c κs = (omega arith, omega arith, omega arith, refl, refl)
+put-message-requires c κs =
+    let s = c .before .before .before in
+    let l = c .before .before .loop in
+    let k = joined-length (messages s) 16 1 (l .b) (row-of s) in
+    (search needs, search needs, search needs, idle-behind _ _ _ (s .args .at) (s .args .at + 16 * l .b) (l .inv .2 .is) (omega (arith, k)) (s .pre .2 (l .b) (omega arith)))
 
 add-b : tie.Need-add-b Inv-loop μ-loop
 add-b c = search needs
@@ -43,14 +55,13 @@ loop-less c = search needs
 
 loop-again : tie.Need-loop-again Inv-loop μ-loop
 loop-again c =
-    let s = c .before .before .before .before .before .before in
-    let l = c .before .before .before .before .before .loop in
-    let f = message (s .args .here .now) (stateOf (s .args .st .now)) in
-    let e = c .before .put-message .ensures in
-    let k : (b : ℕ) → length (f b) ≡ 16 = λ b. message-length (s .args .here .now) (stateOf (s .args .st .now)) b (sent-length (s .args .st .now) (s .pre .1)) in (
+    let s = c .before .before .before .before .before in
+    let l = c .before .before .before .before .loop in
+    let f = messages s in
+    let e = c .before .put-message .ensures in (
       omega arith,
       rw e (simp length-store (l .inv .1)),
-      rw (joined-more f 1 (l .b), e) (row-more (16 * l .b) (f (1 + l .b)) (joined-length f 16 1 (l .b) k) (l .inv .2)),
+      rw (joined-more f 1 (l .b), e) (row-more (16 * l .b) (f (1 + l .b)) (joined-length f 16 1 (l .b) (row-of s)) (l .inv .2)),
     )
 
 same-length : tie.Need-same-length Inv-loop μ-loop
@@ -65,7 +76,6 @@ put-messages-spec =
     (tie.spec
     Inv-loop
     μ-loop
-    array-set-of-none
     loop-holds
     mul-put-message
     add-put-message

@@ -1,26 +1,33 @@
 -- `fire::put_round` meets its contract. Assumes nothing.
-use mathlib.Core.Path.{_≡_, ap, _∙_}
+use mathlib.Core.Path.{ap, _∙_}
 use mathlib.Core.List.{List}
-use Prim.Native.Nat.{_+_}
-use lib.ListN.{length}
+use Prim.Native.Nat.{_+_, _*_, _≤_}
+use native.Mathlib.Omega.{arith}
+use lib.ListN.{length, drop, length-take}
 use lib.IntN.{ℤ}
 use denote.Ref.{now}
 use Rattle.field.specs.Field.{each}
-use Rattle.network.specs.Cells.{store}
+use Rattle.network.specs.Cells.{row, store}
+use Rattle.network.specs.Network.{pendingAt}
 use Rattle.round.specs.Round.{message, joined}
-use Rattle.step.specs.State.{stateOf}
+use Rattle.apply.specs.State.{stateOf}
+use Rattle.fire.proofs.Rounds.{idle-behind}
 use borrow.Author.Needs.{needs}
 use Rattle.fire.proofs.put_round.Statement.{statement}
 use Rattle.fire.proofs.put_round.Tie as tie
 
-put-row-requires : tie.Need-put-row-requires
-put-row-requires c κs = search needs
+copy-requires : tie.Need-copy-requires
+copy-requires c κs = search needs
 
 add-put-messages : tie.Need-add-put-messages
 add-put-messages c = search needs
 
 put-messages-requires : tie.Need-put-messages-requires
-put-messages-requires c κs = search needs
+put-messages-requires c κs =
+    let r = c .before .before in
+    let s = r .before .before in
+    let k : length (row (now (s .args .st)) 0 16) ≤ 16 = omega (arith, length-take 16 (drop 0 (now (s .args .st)))) in
+    (search needs, search needs, λ b h. idle-behind _ _ _ (s .args .at) (s .args .at + pendingAt 1 + 16 * b) (r .copy .ensures) (omega arith) (s .pre .2 b h))
 
 same-length : tie.Need-same-length
 same-length c = search needs
@@ -28,16 +35,14 @@ same-length c = search needs
 returns : tie.Need-returns
 unfolding stateOf
 returns c =
-    let s = c .before .before .before .before .before .before .before .before in
-    let h : length (s .args .t4) ≡ 64 = search needs in
+    let s = c .before .before .before .before .before .before in
     record {
-      whole = h;
       network =
           c .before .put-messages .ensures
-          ∙ ap (λ (m : List ℤ). store m (s .args .at + 273) (joined (each (message (now (s .args .here)) (stateOf (s .args .t4)))))) (c .before .before .before .before .before .put-row .ensures);
+          ∙ ap (λ (m : List ℤ). store m (s .args .at + pendingAt 1) (joined (each (message (now (s .args .here)) (stateOf (now (s .args .st))))))) (c .before .before .before .before .copy .ensures);
     }
 
 pub put-round-spec : {M : Type 1} → statement M
 put-round-spec =
     tie.close
-    (tie.spec put-row-requires add-put-messages put-messages-requires same-length returns)
+    (tie.spec copy-requires add-put-messages put-messages-requires same-length returns)

@@ -1,6 +1,6 @@
 -- `fresh::fresh` meets its contract. Assumes nothing.
-use mathlib.Core.Path.{_≡_, refl, ap, _∙_}
-use Prim.Native.Nat.{_-_, _*_, _≤_}
+use mathlib.Core.Path.{_≡_, refl, _∙_}
+use Prim.Native.Nat.{_-_, _≤_}
 use native.Mathlib.Omega.{arith}
 use lib.ListN.{length}
 use denote.Ref.{now}
@@ -9,7 +9,7 @@ use borrow.Author.Needs.{needs}
 use Rattle.network.specs.Network.{copies, freshBlock, freshCall}
 use Rattle.network.specs.Cells.{store}
 use Rattle.network.proofs.Stores.{nothing-yet}
-use Rattle.fresh.proofs.Stores.{copy-more, length-block, made-fresh, both}
+use Rattle.fresh.proofs.Stores.{length-block, next-block, made-fresh, paired}
 use Rattle.fresh.proofs.fresh.Statement.{statement}
 use Rattle.fresh.proofs.fresh.Tie as tie
 
@@ -24,7 +24,7 @@ refused-requires c κs = search needs
 
 returns : tie.Need-returns Inv-loop μ-loop
 unfolding freshCall
-returns c = rw (ne-eqb _ _ (c .before .if1 .taken)) (both (c .refused .ensures) refl)
+returns c = rw (ne-eqb _ _ (c .before .if1 .taken)) (paired (c .refused .ensures) refl)
 
 fresh-block-requires : tie.Need-fresh-block-requires Inv-loop μ-loop
 fresh-block-requires c κs = search needs
@@ -33,13 +33,15 @@ loop-holds : tie.Need-loop-holds Inv-loop μ-loop
 unfolding copies
 loop-holds c = (omega arith, refl, nothing-yet (now (c .before .before .args .net)) 0)
 
-mul-put : tie.Need-mul-put Inv-loop μ-loop
-mul-put c = omega arith
+mul-copy : tie.Need-mul-copy Inv-loop μ-loop
+mul-copy c = omega arith
 
-put-requires : tie.Need-put-requires Inv-loop μ-loop
-put-requires c κs =
-    let e = c .before .before .before .before .fresh-block .ensures in
-    (omega arith, ap length e ∙ length-block)
+slice-aggregate-copy : tie.Need-slice-aggregate-copy Inv-loop μ-loop
+slice-aggregate-copy c = search needs
+
+copy-requires : tie.Need-copy-requires Inv-loop μ-loop
+copy-requires c κs = let e = c .before .before .before .before .fresh-block .ensures in
+    (omega arith, rw e (omega (arith, length-block)))
 
 add-device : tie.Need-add-device Inv-loop μ-loop
 add-device c = omega arith
@@ -54,8 +56,7 @@ loop-again c =
     let l = c .before .before .before .before .before .loop in (
       omega arith,
       c .net .given ∙ l .inv .1,
-      c .before .put .ensures ∙ ap (store (l .net) (l .device * 529)) (b .ensures)
-          ∙ copy-more (now (s .args .net)) (l .net) 0 (l .device * 529) (l .device) 529 freshBlock length-block (l .inv .2) (omega arith),
+      next-block (now (s .args .net)) (l .net) _ _ (l .device) (b .ensures) (l .inv .2) (c .before .copy .ensures),
     )
 
 accepted-requires : tie.Need-accepted-requires Inv-loop μ-loop
@@ -70,7 +71,7 @@ returns-2 c =
     let s = c .before .before .before .before .before in
     let q = c .before .before .before .before .if1 .left in
     let l = c .before .before .loop in
-    rw (eq-eqb _ _ q) (both (c .accepted .ensures) (made-fresh (now (s .args .net)) (l .net) (l .device) (omega arith) q (l .inv .2)))
+    rw (eq-eqb _ _ q) (paired (c .accepted .ensures) (made-fresh (now (s .args .net)) (l .net) (l .device) (omega arith) q (l .inv .2)))
 
 pub fresh-spec : {M : Type 1} → statement M
 fresh-spec =
@@ -82,8 +83,9 @@ fresh-spec =
     returns
     fresh-block-requires
     loop-holds
-    mul-put
-    put-requires
+    mul-copy
+    slice-aggregate-copy
+    copy-requires
     add-device
     loop-less
     loop-again

@@ -8,17 +8,17 @@ use borrow.Author.Needs.{needs}
 use lib.IntN.{ℤ, pos}
 use lib.ListN.{length, set, replicate, length-set}
 use Rattle.number.specs.Number.{mark}
-use Rattle.network.specs.Network.{copies}
+use Rattle.network.specs.Network.{sensorsAt, pendingAt, blockSize, copies}
 use Rattle.fresh.proofs.fresh_block.Statement.{statement}
 use Rattle.fresh.proofs.fresh_block.Tie as tie
 
 -- the block when the pending marks to the first k devices are 0
 abbrev so-far : ℕ → List ℤ
-so-far zero = set (replicate 529 mark) 16 (pos 0)
-so-far (suc k) = set (so-far k) (273 + 16 * k) (pos 0)
+so-far zero = set (replicate blockSize mark) sensorsAt (pos 0)
+so-far (suc k) = set (so-far k) (pendingAt 1 + 16 * k) (pos 0)
 
 abbrev Inv-loop : tie.InvT-loop
-Inv-loop block₀ b₀ block b = (b ≤ 16) × (length block ≡ 529) × (block ≡ so-far b)
+Inv-loop block₀ b₀ block b = (b ≤ 16) × (length block ≡ blockSize) × (block ≡ so-far b)
 
 abbrev μ-loop : tie.MeasureT-loop
 μ-loop block₀ b₀ block b = 16 - b

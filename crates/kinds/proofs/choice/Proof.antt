@@ -10,7 +10,9 @@ no-node-requires : tie.Need-no-node-requires
 no-node-requires c κs = search needs
 
 returns : tie.Need-returns
-returns c = λ defs counts slots kept. wrong-size (c .before .before .before .pre .1) (c .before .before .before .pre .0) (c .before .before .before .pre .2) (c .before .if1 .taken) (c .no-node .ensures)
+returns c =
+    let b3 = c .before .before .before in
+    λ defs counts slots kept. wrong-size (b3 .pre .1) (b3 .pre .0) (b3 .pre .2) (c .before .if1 .taken) (c .no-node .ensures)
 
 shared-slice-read-x : tie.Need-shared-slice-read-x
 shared-slice-read-x c = search needs
@@ -28,7 +30,11 @@ given-requires : tie.Need-given-requires
 given-requires c κs = search needs
 
 returns-2 : tie.Need-returns-2
-returns-2 c = λ defs counts slots kept. read (c .before .before .before .before .before .before .before .before .pre .1) (c .before .before .before .before .before .before .before .before .pre .0) (c .before .before .before .before .before .before .before .before .pre .2) (c .before .before .before .before .before .before .if1 .left) (children-parts _ (c .before .before .before .before .before .before .if1 .left)) (children-last no-item refl (c .before .three-children .ensures) refl refl) (c .given .ensures)
+returns-2 c =
+    let b6 = c .before .before .before .before .before .before in
+    let b8 = b6 .before .before in
+    λ defs counts slots kept. read (b8 .pre .1) (b8 .pre .0) (b8 .pre .2) (b6 .if1 .left) (children-parts _ (b6 .if1 .left))
+    (children-last no-item refl (c .before .three-children .ensures) refl refl) (c .given .ensures)
 
 pub choice-spec : {M : Type 1} → statement M
 choice-spec =

@@ -11,7 +11,9 @@ no-node-requires : tie.Need-no-node-requires
 no-node-requires c κs = search needs
 
 returns : tie.Need-returns
-returns c = λ defs counts slots kept. wrong-size (c .before .before .before .pre .1) (c .before .before .before .pre .0) (c .before .before .before .pre .2) (c .before .if1 .taken) (c .no-node .ensures)
+returns c =
+    let b3 = c .before .before .before in
+    λ defs counts slots kept. wrong-size (b3 .pre .1) (b3 .pre .0) (b3 .pre .2) (c .before .if1 .taken) (c .no-node .ensures)
 
 shared-slice-read-item : tie.Need-shared-slice-read-item
 shared-slice-read-item c = search needs
@@ -20,7 +22,11 @@ no-node-requires-2 : tie.Need-no-node-requires-2
 no-node-requires-2 c κs = search needs
 
 returns-2 : tie.Need-returns-2
-returns-2 c = λ defs counts slots kept. body-refused (c .before .before .before .before .before .pre .1) (c .before .before .before .before .before .pre .0) (c .before .before .before .before .before .pre .2) (c .before .before .before .if1 .left) (item-2-parts _ refl refl (c .before .before .before .if1 .left)) (out-of-range (operator-out (c .before .if2 .taken))) (λ z. omega arith) (c .no-node2 .ensures)
+returns-2 c =
+    let b3 = c .before .before .before in
+    let b5 = b3 .before .before in
+    λ defs counts slots kept. body-refused (b5 .pre .1) (b5 .pre .0) (b5 .pre .2) (b3 .if1 .left) (item-2-parts _ refl refl (b3 .if1 .left))
+    (out-of-range (operator-out (c .before .if2 .taken))) (λ z. omega arith) (c .no-node2 .ensures)
 
 shared-slice-read-x : tie.Need-shared-slice-read-x
 shared-slice-read-x c = search needs
@@ -35,7 +41,12 @@ given-requires : tie.Need-given-requires
 given-requires c κs = search needs
 
 returns-3 : tie.Need-returns-3
-returns-3 c = λ defs counts slots kept. read (c .before .before .before .before .before .before .before .before .before .pre .1) (c .before .before .before .before .before .before .before .before .before .pre .0) (c .before .before .before .before .before .before .before .before .before .pre .2) (c .before .before .before .before .before .before .before .if1 .left) (item-2-parts _ refl refl (c .before .before .before .before .before .before .before .if1 .left)) (children-last (operator-in (c .before .before .before .before .before .if2 .left)) refl (c .before .two-children .ensures) refl refl) (c .given .ensures)
+returns-3 c =
+    let b5 = c .before .before .before .before .before in
+    let b7 = b5 .before .before in
+    let b9 = b7 .before .before in
+    λ defs counts slots kept. read (b9 .pre .1) (b9 .pre .0) (b9 .pre .2) (b7 .if1 .left) (item-2-parts _ refl refl (b7 .if1 .left))
+    (children-last (operator-in (b5 .if2 .left)) refl (c .before .two-children .ensures) refl refl) (c .given .ensures)
 
 pub operator-spec : {M : Type 1} → statement M
 operator-spec =

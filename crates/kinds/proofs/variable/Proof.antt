@@ -1,4 +1,5 @@
 -- `kinds::variable` meets its contract. Assumes nothing.
+use Rattle.shapes.specs.Kinds.{variableKind}
 use Rattle.shapes.proofs.Inside.{variable-out, variable-in}
 use Rattle.kinds.proofs.Fields.{form, wrong-size, body-refused, read, out-of-range, children-last, no-children, item-parts}
 use mathlib.Core.Path.{refl}
@@ -11,7 +12,7 @@ no-node-requires : tie.Need-no-node-requires
 no-node-requires c κs = search needs
 
 returns : tie.Need-returns
-returns c = λ n defs counts m h. wrong-size (form 2 (omega arith)) (c .before .before .before .pre) h (c .before .if1 .taken) (c .no-node .ensures)
+returns c = λ n defs counts m h. wrong-size (form variableKind (omega arith)) (c .before .before .before .pre) h (c .before .if1 .taken) (c .no-node .ensures)
 
 shared-slice-read-read : tie.Need-shared-slice-read-read
 shared-slice-read-read c = search needs
@@ -20,13 +21,21 @@ no-node-requires-2 : tie.Need-no-node-requires-2
 no-node-requires-2 c κs = search needs
 
 returns-2 : tie.Need-returns-2
-returns-2 c = λ n defs counts m h. body-refused (form 2 (omega arith)) (c .before .before .before .before .before .pre) h (c .before .before .before .if1 .left) (item-parts _ refl refl (c .before .before .before .if1 .left)) (out-of-range (variable-out (c .before .if2 .taken))) (λ z. omega arith) (c .no-node2 .ensures)
+returns-2 c =
+    let b3 = c .before .before .before in
+    let b5 = b3 .before .before in
+    λ n defs counts m h. body-refused (form variableKind (omega arith)) (b5 .pre) h (b3 .if1 .left) (item-parts _ refl refl (b3 .if1 .left))
+    (out-of-range (variable-out (c .before .if2 .taken))) (λ z. omega arith) (c .no-node2 .ensures)
 
 given-requires : tie.Need-given-requires
 given-requires c κs = search needs
 
 returns-3 : tie.Need-returns-3
-returns-3 c = λ n defs counts m h. read (form 2 (omega arith)) (c .before .before .before .before .before .pre) h (c .before .before .before .if1 .left) (item-parts _ refl refl (c .before .before .before .if1 .left)) (children-last (variable-in (c .before .if2 .left)) refl no-children refl refl) (c .given .ensures)
+returns-3 c =
+    let b3 = c .before .before .before in
+    let b5 = b3 .before .before in
+    λ n defs counts m h. read (form variableKind (omega arith)) (b5 .pre) h (b3 .if1 .left) (item-parts _ refl refl (b3 .if1 .left))
+    (children-last (variable-in (c .before .if2 .left)) refl no-children refl refl) (c .given .ensures)
 
 pub variable-spec : {M : Type 1} → statement M
 variable-spec =

@@ -8,14 +8,15 @@ use mir.Syntax.{w32}
 use mir.ValLaws.{toZ-ofZ}
 use borrow.Author.Needs.{needs, sfits-of}
 use Rattle.round.specs.Round.{number}
-use Rattle.step.specs.State.{stateOf}
-use Rattle.step.proofs.Laws.{gives, gave, state-variable}
-use Rattle.leaf.proofs.Laws.{right, ev-lit, ev-param, ev-var}
+use Rattle.words.specs.Form.{constantForm, parameterForm, variableForm, leafForms}
+use Rattle.apply.specs.State.{stateOf}
+use Rattle.apply.proofs.Laws.{gives, gave, state-variable}
+use Rattle.leaf.proofs.Evaluates.{ev-lit, ev-param, ev-var}
 use Rattle.leaf.proofs.leaf.Statement.{statement}
 use Rattle.leaf.proofs.leaf.Tie as tie
 
-is-2 : {k f : ℕ} → k ≡ f → f < 3 → (k ≡ 0 → ⊥) → (k ≡ 1 → ⊥) → k ≡ 2
-is-2 e h p q = omega arith
+is-variable : {k f : ℕ} → k ≡ f → f < leafForms → (k ≡ constantForm → ⊥) → (k ≡ parameterForm → ⊥) → f ≡ variableForm
+is-variable e h p q = omega arith
 
 mul-w : tie.Need-mul-w
 mul-w c = search needs
@@ -30,7 +31,11 @@ constant-of-requires : tie.Need-constant-of-requires
 constant-of-requires c κs = search needs
 
 returns : tie.Need-returns
-returns c = gives (ev-lit ((c .before .before .before .before) .args .t .now) ((c .before .before .before .before) .args .u .now) ((c .before .before .before .before) .args .n) ((c .before .before .before .before) .pre .0 .sound) ((c .before .before .before .before) .pre .0 .inside) ((c .before .before .form-of) .result) ((c .before .before .form-of) .ensures) ((c .before .before .before .before) .args .here .now) ((c .before .before .before .before) .args .env .now) (stateOf ((c .before .before .before .before) .args .st .now)) ((c .before .if1) .taken)) (gave (ap number (sym ((toZ-ofZ w32 ((c .constant-of) .result) (sfits-of ((c .constant-of) .ok))) ∙ (c .constant-of) .ensures))) refl ((c .before .before .before .before) .pre .0 .clear))
+returns c =
+    let s = c .before .before .before .before in
+    let z = sym (c .before .before .form-of .ensures) ∙ c .before .if1 .taken in
+    let v = toZ-ofZ w32 (c .constant-of .result) (sfits-of (c .constant-of .ok)) ∙ c .constant-of .ensures in
+    λ here. gives (ev-lit (s .args .t .now) (s .args .n) here (s .args .env .now) (stateOf (s .args .st .now)) z) (gave (ap number (sym v)) refl (s .pre .clear))
 
 item-of-requires : tie.Need-item-of-requires
 item-of-requires c κs = search needs
@@ -42,19 +47,36 @@ mul-result : tie.Need-mul-result
 mul-result c = search needs
 
 element-copy-out-result : tie.Need-element-copy-out-result
-element-copy-out-result c = omega (arith, (c .before .item-of) .ensures, right ((c .before .before .before .before .before) .pre .0 .sound) ((c .before .before .before .before .before) .pre .0 .inside) .param (sym ((c .before .before .before .form-of) .ensures) ∙ (c .if2) .taken))
+element-copy-out-result c =
+    let p = c .before .before .before in
+    omega (arith, c .before .item-of .ensures, p .before .before .pre .param (sym (p .form-of .ensures) ∙ c .if2 .taken))
 
 returns-2 : tie.Need-returns-2
-returns-2 c = gives (ev-param ((c .before .before .before .before .before .before) .args .t .now) ((c .before .before .before .before .before .before) .args .u .now) ((c .before .before .before .before .before .before) .args .n) ((c .before .before .before .before .before .before) .pre .0 .sound) ((c .before .before .before .before .before .before) .pre .0 .inside) ((c .before .before .before .before .form-of) .result) ((c .before .before .before .before .form-of) .ensures) ((c .before .before .before .before .before .before) .args .here .now) ((c .before .before .before .before .before .before) .args .env .now) (stateOf ((c .before .before .before .before .before .before) .args .st .now)) ((c .before .if2) .taken) ((c .before .before .item-of) .result) ((c .before .before .item-of) .ensures)) (gave (ap number (sym (toZ-ofZ w32 (getD ((c .before .before .before .before .before .before) .args .env .now) ((c .before .before .item-of) .result) (pos 0)) (sfits-of ((c .result) .given))))) refl ((c .before .before .before .before .before .before) .pre .0 .clear))
+returns-2 c =
+    let p = c .before .before .before .before in
+    let s = p .before .before in
+    let i = c .before .before .item-of in
+    let z = sym (p .form-of .ensures) ∙ c .before .if2 .taken in
+    let v = toZ-ofZ w32 (getD (s .args .env .now) (i .result) (pos 0)) (sfits-of (c .result .given)) in
+    λ here. gives (ev-param (s .args .t .now) (s .args .n) here (s .args .env .now) (stateOf (s .args .st .now)) z (i .result) (i .ensures))
+    (gave (ap number (sym v)) refl (s .pre .clear))
 
 mul-result-2 : tie.Need-mul-result-2
 mul-result-2 c = search needs
 
 element-copy-out-result-2 : tie.Need-element-copy-out-result-2
-element-copy-out-result-2 c = omega (arith, (c .before .item-of) .ensures)
+element-copy-out-result-2 c = omega (arith, c .before .item-of .ensures)
 
 returns-3 : tie.Need-returns-3
-returns-3 c = let vh : (c .before .before .item-of) .result < 16 = omega (arith, (c .before .before .item-of) .ensures) in gives (ev-var ((c .before .before .before .before .before .before) .args .t .now) ((c .before .before .before .before .before .before) .args .u .now) ((c .before .before .before .before .before .before) .args .n) ((c .before .before .before .before .before .before) .pre .0 .sound) ((c .before .before .before .before .before .before) .pre .0 .inside) ((c .before .before .before .before .form-of) .result) ((c .before .before .before .before .form-of) .ensures) ((c .before .before .before .before .before .before) .args .here .now) ((c .before .before .before .before .before .before) .args .env .now) (stateOf ((c .before .before .before .before .before .before) .args .st .now)) (is-2 ((c .before .before .before .before .form-of) .ensures) ((c .before .before .before .before .before .before) .pre .1) ((c .before .before .before .if1) .left) ((c .before .if2) .left)) ((c .before .before .item-of) .result) ((c .before .before .item-of) .ensures)) (gave (ap number (state-variable ((c .before .before .before .before .before .before) .args .st .now) ((c .before .before .item-of) .result) vh ∙ sym (toZ-ofZ w32 (getD ((c .before .before .before .before .before .before) .args .st .now) ((c .before .before .item-of) .result) (pos 0)) (sfits-of ((c .result2) .given))))) refl ((c .before .before .before .before .before .before) .pre .0 .clear))
+returns-3 c =
+    let p = c .before .before .before .before in
+    let s = p .before .before in
+    let i = c .before .before .item-of in
+    let l : i .result < 16 = omega (arith, i .ensures) in
+    let z = is-variable (p .form-of .ensures) (s .pre .leaf) (c .before .before .before .if1 .left) (c .before .if2 .left) in
+    let v = state-variable (s .args .st .now) (i .result) l ∙ sym (toZ-ofZ w32 (getD (s .args .st .now) (i .result) (pos 0)) (sfits-of (c .result2 .given))) in
+    λ here. gives (ev-var (s .args .t .now) (s .args .n) here (s .args .env .now) (stateOf (s .args .st .now)) z (i .result) (i .ensures))
+    (gave (ap number v) refl (s .pre .clear))
 
 pub leaf-spec : {M : Type 1} → statement M
 leaf-spec =

@@ -35,7 +35,13 @@ loop-less : tie.Need-loop-less Inv-loop μ-loop
 loop-less c = omega arith
 
 loop-again : tie.Need-loop-again Inv-loop μ-loop
-loop-again c = (omega arith, length-set (c .before .before .loop .out) _ _ ∙ c .before .before .loop .inv .1, put-more (now (c .before .before .before .args .out)) (c .before .before .loop .out) (now (c .before .before .before .args .text)) (c .before .before .before .args .at) (c .before .before .loop .i) (omega arith) (omega arith) (c .before .before .loop .inv .2))
+loop-again c = (
+  omega arith,
+  length-set (c .before .before .loop .out) _ _ ∙ c .before .before .loop .inv .1,
+  put-more (now (c .before .before .before .args .out))
+      (c .before .before .loop .out) (now (c .before .before .before .args .text)) (c .before .before .before .args .at) (c .before .before .loop .i) (omega arith) (omega arith)
+      (c .before .before .loop .inv .2),
+)
 
 add-result : tie.Need-add-result Inv-loop μ-loop
 add-result c = omega arith
@@ -44,7 +50,12 @@ same-length : tie.Need-same-length Inv-loop μ-loop
 same-length c = c .before .loop .inv .1
 
 returns : tie.Need-returns Inv-loop μ-loop
-returns c = let e : c .before .loop .i ≡ length (now (c .before .before .args .text)) = omega arith in record { reads = c .before .loop .inv .2 ∙ ap (λ (l : List ℕ). take (c .before .before .args .at) (now (c .before .before .args .out)) ++ l) (take-all (c .before .loop .i) (now (c .before .before .args .text)) (omega arith)); onward = omega arith; fits = omega arith }
+returns c = let e : c .before .loop .i ≡ length (now (c .before .before .args .text)) = omega arith in record {
+  reads = c .before .loop .inv .2 ∙ ap (λ (l : List ℕ). take (c .before .before .args .at) (now (c .before .before .args .out)) ++ l)
+      (take-all (c .before .loop .i) (now (c .before .before .args .text)) (omega arith));
+  onward = omega arith;
+  fits = omega arith;
+}
 
 pub put-spec : {M : Type 1} → statement M
 put-spec =

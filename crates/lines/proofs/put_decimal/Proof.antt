@@ -21,7 +21,8 @@ same-length : tie.Need-same-length
 same-length c = search needs
 
 returns : tie.Need-returns
-returns c = put-digits (c .before .before .before .before .before .decimal .last .1 .0) (omega arith) (c .before .before .before .before .before .decimal .ensures .1 .0) (c .before .before .before .before .before .decimal .ensures .1 .1) (c .before .before .before .before .before .decimal .ensures .0 .1) (c .before .before .put .ensures)
+returns c = put-digits (c .before .before .before .before .before .decimal .last .1 .0) (omega arith) (c .before .before .before .before .before .decimal .ensures .1 .0)
+    (c .before .before .before .before .before .decimal .ensures .1 .1) (c .before .before .before .before .before .decimal .ensures .0 .1) (c .before .before .put .ensures)
 
 pub put-decimal-spec : {M : Type 1} → statement M
 put-decimal-spec =

@@ -37,7 +37,16 @@ same-length : tie.Need-same-length
 same-length c = search needs
 
 returns : tie.Need-returns
-returns c = as-text (both (both (both (both (both (c .before .before .before .before .before .before .before .before .before .before .before .before .before .before .before .before .before .before .before .before .before .before .before .before .before .put-decimal .ensures) (c .before .before .before .before .before .before .before .before .before .before .before .before .before .before .before .before .before .before .before .before .put .ensures)) (c .before .before .before .before .before .before .before .before .before .before .before .before .before .before .before .before .put-signed .ensures)) (c .before .before .before .before .before .before .before .before .before .before .before .put2 .ensures)) (c .before .before .before .before .before .before .before .put-signed2 .ensures)) (c .before .before .put3 .ensures)) (line-read (c .before .before .before .before .before .before .before .before .before .before .before .before .before .before .before .before .before .before .before .before .before .before .before .before .before .before .before .before .args .i) (c .before .before .before .before .before .before .before .before .before .before .before .before .before .before .before .before .before .before .before .before .before .before .before .before .before .before .before .before .args .code) (c .before .before .before .before .before .before .before .before .before .before .before .before .before .before .before .before .before .before .before .before .before .before .before .before .before .before .before .before .args .value) (c .before .before .before .before .before .before .before .before .before .before .before .before .before .before .before .before .before .before .before .before .before .before .before .before .before .before .before .before .fits .code) (c .before .before .before .before .before .before .before .before .before .before .before .before .before .before .before .before .before .before .before .before .before .before .before .before .before .before .before .before .fits .value)) (omega arith)
+returns c =
+    let at-put3 = c .before .before in
+    let at-put-signed2 = at-put3 .before .before .before .before .before in
+    let at-put2 = at-put-signed2 .before .before .before .before in
+    let at-put-signed = at-put2 .before .before .before .before .before in
+    let at-put = at-put-signed .before .before .before .before in
+    let at-put-decimal = at-put .before .before .before .before .before in
+    let s = at-put-decimal .before .before .before in
+    as-text (both (both (both (both (both (at-put-decimal .put-decimal .ensures) (at-put .put .ensures)) (at-put-signed .put-signed .ensures)) (at-put2 .put2 .ensures))
+    (at-put-signed2 .put-signed2 .ensures)) (at-put3 .put3 .ensures)) (line-read (s .args .i) (s .args .code) (s .args .value) (s .fits .code) (s .fits .value)) (omega arith)
 
 pub put-line-spec : {M : Type 1} → statement M
 put-line-spec =

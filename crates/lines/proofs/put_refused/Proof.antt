@@ -35,7 +35,14 @@ same-length c = search needs
 
 returns : tie.Need-returns
 unfolding refused
-returns c = first (both (both (both (both (c .before .before .before .before .before .before .before .before .before .before .before .before .before .before .before .before .before .before .before .before .put .ensures) (c .before .before .before .before .before .before .before .before .before .before .before .before .before .before .before .before .put-decimal .ensures)) (c .before .before .before .before .before .before .before .before .before .before .before .put2 .ensures)) (c .before .before .before .before .before .before .before .put-decimal2 .ensures)) (c .before .before .put3 .ensures)) (omega arith)
+returns c =
+    let at-put3 = c .before .before in
+    let at-put-decimal2 = at-put3 .before .before .before .before .before in
+    let at-put2 = at-put-decimal2 .before .before .before .before in
+    let at-put-decimal = at-put2 .before .before .before .before .before in
+    let at-put = at-put-decimal .before .before .before .before in
+    first (both (both (both (both (at-put .put .ensures) (at-put-decimal .put-decimal .ensures)) (at-put2 .put2 .ensures)) (at-put-decimal2 .put-decimal2 .ensures))
+    (at-put3 .put3 .ensures)) (omega arith)
 
 pub put-refused-spec : {M : Type 1} → statement M
 put-refused-spec =

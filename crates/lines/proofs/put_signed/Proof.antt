@@ -24,7 +24,11 @@ same-length : tie.Need-same-length
 same-length c = search needs
 
 returns : tie.Need-returns
-returns c = let w = negative (c .before .before .before .before .before .before .before .before .before .before .before .before .args .x) (c .before .before .before .before .before .before .before .before .before .before .before .before .fits .x) (c .before .before .before .before .before .before .before .before .before .before .if1 .taken) in as-text (both (c .before .before .before .before .before .before .before .put .ensures) (c .before .before .put-decimal .ensures)) (rw (c .before .before .before .before .size .ensures) (w .text)) (omega arith)
+returns c = let w = negative (c .before .before .before .before .before .before .before .before .before .before .before .before .args .x)
+    (c .before .before .before .before .before .before .before .before .before .before .before .before .fits .x)
+    (c .before .before .before .before .before .before .before .before .before .before .if1 .taken) in as-text
+    (both (c .before .before .before .before .before .before .before .put .ensures) (c .before .before .put-decimal .ensures))
+    (rw (c .before .before .before .before .size .ensures) (w .text)) (omega arith)
 
 size-requires-2 : tie.Need-size-requires-2
 size-requires-2 c κs = search needs
@@ -36,7 +40,9 @@ same-length-2 : tie.Need-same-length-2
 same-length-2 c = search needs
 
 returns-2 : tie.Need-returns-2
-returns-2 c = let w = natural (c .before .before .before .before .before .before .before .args .x) (c .before .before .before .before .before .before .before .fits .x) (c .before .before .before .before .before .if1 .left) in as-text (c .before .before .put-decimal2 .ensures) (ap decimal (c .before .before .before .before .size2 .ensures) ∙ w .text) (omega arith)
+returns-2 c = let w = natural (c .before .before .before .before .before .before .before .args .x) (c .before .before .before .before .before .before .before .fits .x)
+    (c .before .before .before .before .before .if1 .left) in as-text (c .before .before .put-decimal2 .ensures)
+    (ap decimal (c .before .before .before .before .size2 .ensures) ∙ w .text) (omega arith)
 
 pub put-signed-spec : {M : Type 1} → statement M
 put-signed-spec =

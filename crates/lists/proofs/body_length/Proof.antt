@@ -20,7 +20,14 @@ returns-5 : tie.Need-returns-5
 returns-5 c = sym (rw (c .match .keys5))
 
 returns-6 : tie.Need-returns-6
-returns-6 c = let h = c .match .rest in sym (rw (ne-eqb (c .before .args .tag) 16 (h .0 .0 .0 .0 .1), ne-eqb (c .before .args .tag) 17 (h .0 .0 .0 .1), ne-eqb (c .before .args .tag) 18 (h .0 .0 .1), ne-eqb (c .before .args .tag) 19 (h .0 .1), ne-eqb (c .before .args .tag) 20 (h .1)))
+returns-6 c = let h = c .match .rest in sym (rw (
+  ne-eqb (c .before .args .tag) 16 (h .0 .0 .0 .0 .1),
+  ne-eqb (c .before .args .tag) 17 (h .0 .0 .0 .1),
+  ne-eqb (c .before .args .tag) 18
+      (h .0 .0 .1),
+  ne-eqb (c .before .args .tag) 19 (h .0 .1),
+  ne-eqb (c .before .args .tag) 20 (h .1),
+))
 
 pub body-length-spec : {M : Type 1} → statement M
 body-length-spec = tie.close (tie.spec returns returns-2 returns-3 returns-4 returns-5 returns-6)

@@ -4,9 +4,10 @@ use mathlib.Core.Bool.{true}
 use native.Mathlib.Omega.{arith}
 use borrow.Author.Tests.{ne-eqb}
 use denote.Ref.{now}
+use Rattle.decide.proofs.Picks.{said-no, said-yes}
 use Rattle.event.specs.Event.{readAs}
 use Rattle.lists.specs.Listed.{known}
-use Rattle.lists.proofs.Known.{said-no, said-yes, unread, length-of, last-tag}
+use Rattle.lists.proofs.Known.{unread, length-of, last-tag}
 use Rattle.lists.proofs.Bytes.{body-is, length-body}
 use borrow.Author.Needs.{needs}
 use Rattle.lists.proofs.event_of.Statement.{statement}

@@ -20,7 +20,9 @@ clear-requires : tie.Need-clear-requires Inv-loop μ-loop
 clear-requires c κs = c .before .pre .1
 
 loop-holds : tie.Need-loop-holds Inv-loop μ-loop
-loop-holds c = let s = c .before .before .before in (begins (s .args .t1) (s .pre .0) (c .before .clear .ensures), column-none kindOf (s .args .t1) (s .pre .2), column-none itemOf (s .args .t1) (s .pre .3))
+loop-holds c =
+    let b3 = c .before .before .before in
+    let s = b3 in (begins (s .args .t1) (s .pre .0) (c .before .clear .ensures), column-none kindOf (s .args .t1) (s .pre .2), column-none itemOf (s .args .t1) (s .pre .3))
 
 mul-x : tie.Need-mul-x Inv-loop μ-loop
 mul-x c = search needs
@@ -41,7 +43,10 @@ element-write-items : tie.Need-element-write-items Inv-loop μ-loop
 element-write-items c = omega (arith, c .before .before .before .loop .inv .2 .long)
 
 leaf-word-requires : tie.Need-leaf-word-requires Inv-loop μ-loop
-leaf-word-requires c κs = let l = c .before .before .before .before .before in leaf (l .before .before .before .before .args .t1) (l .before .before .before .before .pre .0) (l .loop .inv .0) (c .before .before .before .before .loop-test .taken) (c .if1 .taken)
+leaf-word-requires c κs =
+    let b4 = c .before .before .before .before in
+    let b5 = b4 .before in
+    let l = b5 in leaf (l .before .before .before .before .args .t1) (l .before .before .before .before .pre .0) (l .loop .inv .0) (b4 .loop-test .taken) (c .if1 .taken)
 
 mul-ws : tie.Need-mul-ws Inv-loop μ-loop
 mul-ws c = search needs
@@ -59,7 +64,11 @@ either-requires : tie.Need-either-requires Inv-loop μ-loop
 either-requires c κs = search needs
 
 operator-word-requires : tie.Need-operator-word-requires Inv-loop μ-loop
-operator-word-requires c κs = let l = c .before .before .before .before .before .before .before .before .before .before .before .before in operator (l .before .before .before .before .args .t1) (l .before .before .before .before .pre .0) (l .loop .inv .0) (c .before .before .before .before .before .before .before .before .before .before .before .loop-test .taken) (c .before .before .before .before .before .if2 .taken)
+operator-word-requires c κs =
+    let b5 = c .before .before .before .before .before in
+    let b11 = b5 .before .before .before .before .before .before in
+    let b12 = b11 .before in
+    let l = b12 in operator (l .before .before .before .before .args .t1) (l .before .before .before .before .pre .0) (l .loop .inv .0) (b11 .loop-test .taken) (b5 .if2 .taken)
 
 mul-ws-2 : tie.Need-mul-ws-2 Inv-loop μ-loop
 mul-ws-2 c = search needs
@@ -74,7 +83,10 @@ either-requires-2 : tie.Need-either-requires-2 Inv-loop μ-loop
 either-requires-2 c κs = search needs
 
 word-of-requires : tie.Need-word-of-requires Inv-loop μ-loop
-word-of-requires c κs = let l = c .before .before .before .before .before .before .before .before .before .before in fits (l .before .before .before .before .args .t1) (l .before .before .before .before .pre .0) (l .loop .i) (c .before .before .before .before .before .before .before .before .before .loop-test .taken)
+word-of-requires c κs =
+    let b9 = c .before .before .before .before .before .before .before .before .before in
+    let b10 = b9 .before in
+    let l = b10 in fits (l .before .before .before .before .args .t1) (l .before .before .before .before .pre .0) (l .loop .i) (b9 .loop-test .taken)
 
 mul-ws-3 : tie.Need-mul-ws-3 Inv-loop μ-loop
 mul-ws-3 c = search needs
@@ -86,7 +98,10 @@ cast-first-bad : tie.Need-cast-first-bad Inv-loop μ-loop
 cast-first-bad c = omega arith
 
 broken-requires : tie.Need-broken-requires Inv-loop μ-loop
-broken-requires c κs = let l = c .before .before .before .before .before .before .before .before .before .before .before in fits (l .before .before .before .before .args .t1) (l .before .before .before .before .pre .0) (l .loop .i) (c .before .before .before .before .before .before .before .before .before .before .loop-test .taken) .kind
+broken-requires c κs =
+    let b10 = c .before .before .before .before .before .before .before .before .before .before in
+    let b11 = b10 .before in
+    let l = b11 in fits (l .before .before .before .before .args .t1) (l .before .before .before .before .pre .0) (l .loop .i) (b10 .loop-test .taken) .kind
 
 first-bad-requires : tie.Need-first-bad-requires Inv-loop μ-loop
 first-bad-requires c κs = search needs
@@ -128,8 +143,12 @@ lowest-field-requires c κs = search needs
 returns : tie.Need-returns Inv-loop μ-loop
 returns c = let l = c .before .before .before .before .before .before in
     let t = l .before .before .before .before .args .t1 in
-    let e : l .loop .i ≡ t .n = omega (arith, l .loop .inv .0 .upto, c .before .before .before .before .before .loop-test .left) in
-    (packs t (l .before .before .before .before .pre .0) (rw e at (l .loop .inv .0)) (t .defs - 0) (c .before .lower-field .ensures) (omega arith) (c .lowest-field .ensures), rw e at (l .loop .inv .1), rw e at (l .loop .inv .2))
+    let e : l .loop .i ≡ t .n = omega (arith, l .loop .inv .0 .upto, c .before .before .before .before .before .loop-test .left) in (
+      packs t (l .before .before .before .before .pre .0) (rw e at (l .loop .inv .0)) (t .defs - 0) (c .before .lower-field .ensures) (omega arith) (c .lowest-field .ensures),
+      rw e at
+          (l .loop .inv .1),
+      rw e at (l .loop .inv .2),
+    )
 
 pub pack-spec : {M : Type 1} → statement M
 pack-spec =

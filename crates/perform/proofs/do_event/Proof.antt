@@ -47,7 +47,7 @@ same-length : tie.Need-same-length
 same-length c = search needs
 
 returns : tie.Need-returns
-returns c = acts-fire _ (ap meant (c .before .before .before .before .e .given .1)) (c .before .fire .ensures)
+returns c = acts-fire _ (ap meant (c .before .before .before .before .before .e .given .1)) (c .before .fire .ensures)
 
 same-length-2 : tie.Need-same-length-2
 same-length-2 c = search needs
@@ -77,7 +77,7 @@ same-length-6 : tie.Need-same-length-6
 same-length-6 c = search needs
 
 returns-6 : tie.Need-returns-6
-returns-6 c = acts-fire _ (ap meant (c .before .before .before .enum-told .given .1)) (c .before .fire2 .ensures)
+returns-6 c = acts-fire _ (ap meant (c .before .before .before .before .enum-told .given .1)) (c .before .fire2 .ensures)
 
 pub do-event-spec : {M : Type 1} → statement M
 do-event-spec =

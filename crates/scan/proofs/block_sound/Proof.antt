@@ -50,7 +50,10 @@ row-is-requires-2 : tie.Need-row-is-requires-2
 row-is-requires-2 c κs = search needs
 
 returns-4 : tie.Need-returns-4
-returns-4 c = λ t. passes _ _ (sym (c .before .before .before .before .before .before .sensors-sound .ensures) ∙ not-false (c .before .before .before .before .before .before .sensors-sound .result) (c .before .before .before .before .before .if1 .left)) (c .before .before .before .before .rows-sound .ensures (not-false (c .before .before .before .before .rows-sound .result) (c .before .before .before .if2 .left))) (c .before .before .row-is .ensures (not-false (c .before .before .row-is .result) (c .before .if3 .left))) (c .row-is2 .ensures t)
+returns-4 c = λ t. passes _ _ (sym (c .before .before .before .before .before .before .sensors-sound .ensures) ∙ not-false
+    (c .before .before .before .before .before .before .sensors-sound .result) (c .before .before .before .before .before .if1 .left))
+    (c .before .before .before .before .rows-sound .ensures (not-false (c .before .before .before .before .rows-sound .result) (c .before .before .before .if2 .left)))
+    (c .before .before .row-is .ensures (not-false (c .before .before .row-is .result) (c .before .if3 .left))) (c .row-is2 .ensures t)
 
 pub block-sound-spec : {M : Type 1} → statement M
 block-sound-spec =

@@ -55,8 +55,12 @@ loop-less c = omega arith
 
 loop-again : tie.Need-loop-again Inv-loop μ-loop
 loop-again c = let s = c .before .before .before .before .before .before .args in
-    let x = toZ-ofZ {w = w32} {z = getD (now (s .net)) (s .at + c .before .before .before .loop .i) (pos 0)} (sfits-of (c .before .differs-arg2 .given)) in
-    (omega arith, omega arith, λ e. let z = or-none (c .before .before .before .loop .other) (c .differs2 .result) e in slot-more _ refl (c .before .before .before .loop .inv .2 (z .0)) (sym x ∙ c .differs2 .ensures (z .1)))
+    let x = toZ-ofZ {w = w32} {z = getD (now (s .net)) (s .at + c .before .before .before .loop .i) (pos 0)} (sfits-of (c .before .differs-arg2 .given)) in (
+      omega arith,
+      omega arith,
+      λ e. let z = or-none (c .before .before .before .loop .other) (c .differs2 .result) e in slot-more _ refl (c .before .before .before .loop .inv .2 (z .0))
+          (sym x ∙ c .differs2 .ensures (z .1)),
+    )
 
 returns : tie.Need-returns Inv-loop μ-loop
 returns c = λ t. let e : c .before .loop .i ≡ 16 = omega arith in rw (e, toZ-ofZ (c .before .before .before .before .fits .first)) at (c .before .loop .inv .2 (eqb-true _ _ t))

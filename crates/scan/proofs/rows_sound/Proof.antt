@@ -9,14 +9,15 @@ use mir.Syntax.{w32}
 use denote.Ref.{now}
 use borrow.Author.Tests.{not-false}
 use borrow.Author.Needs.{needs, sfits-of}
-use Rattle.scan.specs.Pass.{Rows}
+use Rattle.network.specs.Network.{heardAt}
+use Rattle.scan.specs.Pass.{RowsPass}
 use Rattle.scan.proofs.Tests.{refuted}
 use Rattle.scan.proofs.Blocks.{row-more}
 use Rattle.scan.proofs.rows_sound.Statement.{statement}
 use Rattle.scan.proofs.rows_sound.Tie as tie
 
 abbrev Inv-loop : tie.InvT-loop
-Inv-loop net at b₀ b = (b ≤ 16) × Rows net at b
+Inv-loop net at b₀ b = (b ≤ 16) × RowsPass net at b
 
 abbrev μ-loop : tie.MeasureT-loop
 μ-loop net at b₀ b = 16 - b
@@ -70,8 +71,12 @@ loop-less c = omega arith
 loop-again : tie.Need-loop-again Inv-loop μ-loop
 loop-again c = let s = c .before .before .before .before .before .before .before .args in
     let d = not-false (c .before .before .before .distance-sound .result) (c .before .before .if1 .left) in
-    let x = toZ-ofZ {w = w32} {z = getD (now (s .net)) (s .at + 17 + 16 * c .before .before .before .before .before .before .loop .b) (pos 0)} (sfits-of (c .before .before .before .before .distance-sound-arg .given)) in
-    (omega arith, row-more _ refl (c .before .before .before .before .before .before .loop .inv .1) (sym (simp x at (c .before .before .before .distance-sound .ensures)) ∙ d) (c .before .pending-row .ensures (not-false (c .before .pending-row .result) (c .if2 .left))))
+    let x = toZ-ofZ {w = w32} {z = getD (now (s .net)) (s .at + heardAt 1 + 16 * c .before .before .before .before .before .before .loop .b) (pos 0)}
+    (sfits-of (c .before .before .before .before .distance-sound-arg .given)) in (
+      omega arith,
+      row-more _ refl (c .before .before .before .before .before .before .loop .inv .1) (sym (simp x at (c .before .before .before .distance-sound .ensures)) ∙ d)
+          (c .before .pending-row .ensures (not-false (c .before .pending-row .result) (c .if2 .left))),
+    )
 
 returns-3 : tie.Need-returns-3 Inv-loop μ-loop
 returns-3 c = λ t. let e : c .before .loop .b ≡ 16 = omega arith in rw e at (c .before .loop .inv .1)

@@ -4,7 +4,7 @@ use borrow.Author.Tests.{eq-eqb, ne-eqb}
 use borrow.Author.Needs.{needs}
 use Rattle.network.specs.Network.{soundness}
 use Rattle.scan.proofs.First.{accepted-at, refused-at}
-use Rattle.rules.proofs.Tests.{onTrue, onFalse}
+use Rattle.decide.proofs.Picks.{onTrue, onFalse}
 use Rattle.scan.proofs.soundness.Statement.{statement}
 use Rattle.scan.proofs.soundness.Tie as tie
 

@@ -47,13 +47,21 @@ loop-less : tie.Need-loop-less Inv-loop μ-loop
 loop-less c = search needs
 
 loop-again : tie.Need-loop-again Inv-loop μ-loop
-loop-again c = (omega arith, λ t h. let e : c .before .before .before .before .before .loop .d ≡ (c .before .before .before .before .before .loop .d - 1) + 1 = omega arith in more-misread t h (c .before .before .before .before .before .loop .d - 1) (omega arith) (rw (c .before .before .wide .ensures .0) at (c .walk .ensures)) (rw e at (c .before .before .before .before .before .loop .inv .1 t h)))
+loop-again c =
+    let b2 = c .before .before in
+    let b5 = b2 .before .before .before in (
+      omega arith,
+      λ t h. let e : b5 .loop .d ≡ (b5 .loop .d - 1) + 1 = omega arith in more-misread t h (b5 .loop .d - 1) (omega arith) (rw (b2 .wide .ensures .0) at (c .walk .ensures))
+          (rw e at (b5 .loop .inv .1 t h)),
+    )
 
 walk-requires-2 : tie.Need-walk-requires-2 Inv-loop μ-loop
 walk-requires-2 c κs = (c .before .before .before .before .pre .2, c .before .before .before .before .pre .0)
 
 returns-2 : tie.Need-returns-2 Inv-loop μ-loop
-returns-2 c = λ t h. let e : c .before .before .loop .d ≡ 0 = omega arith in all-trees t h (c .walk2 .ensures) (rw e at (c .before .before .loop .inv .1 t h)) .is
+returns-2 c =
+    let b2 = c .before .before in
+    λ t h. let e : b2 .loop .d ≡ 0 = omega arith in all-trees t h (c .walk2 .ensures) (rw e at (b2 .loop .inv .1 t h)) .is
 
 pub misread-lowest-spec : {M : Type 1} → statement M
 misread-lowest-spec =

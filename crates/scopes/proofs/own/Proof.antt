@@ -1,7 +1,10 @@
 -- `scopes::own` meets its contract. Assumes nothing.
+use mathlib.Core.Path.{_∙_}
 use native.Mathlib.Omega.{arith}
 use borrow.Author.Tests.{eq-eqb, ne-eqb, lt-ltb, le-ltb}
 use borrow.Author.Needs.{needs}
+use Rattle.words.specs.Form.{parameterForm}
+use Rattle.words.specs.Word.{form}
 use Rattle.scopes.specs.Scope.{ownPlace}
 use Rattle.scopes.proofs.own.Statement.{statement}
 use Rattle.scopes.proofs.own.Tie as tie
@@ -21,7 +24,7 @@ returns c =
     rw (
       ← b3 .form-of .ensures,
       ← c .before .item-of .ensures,
-      eq-eqb (b3 .form-of .result) 1 (b2 .if1 .taken),
+      eq-eqb (b3 .form-of .result) parameterForm (b2 .if1 .taken),
       lt-ltb (c .before .item-of .result) (b4 .args .count) (c .if2 .taken),
     )
 
@@ -34,9 +37,12 @@ returns-2 c =
     rw (
       ← b3 .form-of .ensures,
       ← c .before .item-of .ensures,
-      eq-eqb (b3 .form-of .result) 1 (b2 .if1 .taken),
+      eq-eqb (b3 .form-of .result) parameterForm (b2 .if1 .taken),
       le-ltb (c .before .item-of .result) (b4 .args .count) (c .if2 .left),
     )
+
+is-requires : tie.Need-is-requires
+is-requires c κs = search needs
 
 item-of-requires-2 : tie.Need-item-of-requires-2
 item-of-requires-2 c κs = search needs
@@ -51,11 +57,12 @@ returns-3 c =
     let b3 = b2 .before in
     let b4 = b3 .before in
     let b5 = b4 .before in
+    let b6 = b5 .before in
     rw (
-      ← b5 .form-of .ensures,
+      ne-eqb (form (b6 .before .args .w)) parameterForm (λ e. b5 .if1 .left (b6 .form-of .ensures ∙ e)),
+      ← b4 .is .ensures,
+      b3 .if3 .taken,
       ← b2 .item-of2 .ensures,
-      ne-eqb (b5 .form-of .result) 1 (b4 .if1 .left),
-      eq-eqb (b5 .form-of .result) 2 (b3 .if3 .taken),
       ← c .before .has-bit .ensures,
       c .if4 .taken,
     )
@@ -67,11 +74,12 @@ returns-4 c =
     let b3 = b2 .before in
     let b4 = b3 .before in
     let b5 = b4 .before in
+    let b6 = b5 .before in
     rw (
-      ← b5 .form-of .ensures,
+      ne-eqb (form (b6 .before .args .w)) parameterForm (λ e. b5 .if1 .left (b6 .form-of .ensures ∙ e)),
+      ← b4 .is .ensures,
+      b3 .if3 .taken,
       ← b2 .item-of2 .ensures,
-      ne-eqb (b5 .form-of .result) 1 (b4 .if1 .left),
-      eq-eqb (b5 .form-of .result) 2 (b3 .if3 .taken),
       ← c .before .has-bit .ensures,
       c .if4 .left,
     )
@@ -80,7 +88,8 @@ returns-5 : tie.Need-returns-5
 unfolding ownPlace
 returns-5 c =
     let b2 = c .before .before in
-    rw (← b2 .form-of .ensures, ne-eqb (b2 .form-of .result) 1 (c .before .if1 .left), ne-eqb (b2 .form-of .result) 2 (c .if3 .left))
+    let b3 = b2 .before in
+    rw (ne-eqb (form (b3 .before .args .w)) parameterForm (λ e. b2 .if1 .left (b3 .form-of .ensures ∙ e)), ← c .before .is .ensures, c .if3 .left)
 
 pub own-spec : {M : Type 1} → statement M
 own-spec =
@@ -90,6 +99,7 @@ own-spec =
     item-of-requires
     returns
     returns-2
+    is-requires
     item-of-requires-2
     has-bit-requires
     returns-3

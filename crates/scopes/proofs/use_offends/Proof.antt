@@ -3,20 +3,20 @@ use Prim.Native.Nat.{_-_, _≤_}
 use native.Mathlib.Omega.{arith}
 use borrow.Author.Count.{below-none}
 use borrow.Author.Needs.{needs}
-use Rattle.scopes.specs.Uses.{Marks, Passed}
-use Rattle.scopes.proofs.Calls.{no-marks, more-marks, same-marks, passes-over, passes, stops, ends}
+use Rattle.scopes.specs.Uses.{Flags, CleanBelow}
+use Rattle.scopes.proofs.Calls.{no-flags, more-flags, same-flags, passes-over, passes, stops, ends}
 use Rattle.scopes.proofs.use_offends.Statement.{statement}
 use Rattle.scopes.proofs.use_offends.Tie as tie
 
 abbrev Inv-loop : tie.InvT-loop
 Inv-loop kinds items counts bodies sp count no' called₀ n₀ called n =
-    Marks kinds items called n × (n ≤ count) × Passed kinds items counts bodies sp count n
+    Flags kinds items called n × (n ≤ count) × CleanBelow kinds items counts bodies sp count n
 
 abbrev μ-loop : tie.MeasureT-loop
 μ-loop kinds items counts bodies sp count no' called₀ n₀ called n = count - n
 
 loop-holds : tie.Need-loop-holds Inv-loop μ-loop
-loop-holds c = (no-marks _ _, omega arith, record { none = λ t s. below-none _ })
+loop-holds c = (no-flags _ _, omega arith, record { none = λ t s. below-none _ })
 
 cast-i : tie.Need-cast-i Inv-loop μ-loop
 cast-i c = search needs
@@ -31,7 +31,10 @@ loop-less : tie.Need-loop-less Inv-loop μ-loop
 loop-less c = search needs
 
 loop-again : tie.Need-loop-again Inv-loop μ-loop
-loop-again c = (same-marks (c .before .before .before .loop .inv .0) (c .if1 .taken), omega arith, passes-over (c .before .before .before .loop .inv .2) (c .before .before .loop-test .taken) (c .if1 .taken))
+loop-again c =
+    let b2 = c .before .before in
+    let b3 = b2 .before in
+    (same-flags (b3 .loop .inv .0) (c .if1 .taken), omega arith, passes-over (b3 .loop .inv .2) (b2 .loop-test .taken) (c .if1 .taken))
 
 element-copy-out-wide : tie.Need-element-copy-out-wide Inv-loop μ-loop
 element-copy-out-wide c = search needs
@@ -58,7 +61,14 @@ offends-by-requires : tie.Need-offends-by-requires Inv-loop μ-loop
 offends-by-requires c κs = search needs
 
 returns : tie.Need-returns Inv-loop μ-loop
-returns c = stops (c .before .before .before .before .before .before .before .before .before .before .before .loop .inv .0) (c .before .before .before .before .before .before .before .before .before .before .before .loop .inv .2) (c .before .before .before .before .before .before .before .before .before .before .loop-test .taken) (c .before .before .before .before .before .before .wide .ensures .1) (c .before .before .before .before .before .before .wide .ensures .0) (c .before .before .before .before .wide2 .ensures .0) (c .before .offends-by .ensures) (c .if2 .taken) (c .before .before .before .before .before .before .before .before .before .before .before .before .pre)
+returns c =
+    let b4 = c .before .before .before .before in
+    let b6 = b4 .before .before in
+    let b10 = b6 .before .before .before .before in
+    let b11 = b10 .before in
+    let b12 = b11 .before in
+    stops (b11 .loop .inv .0) (b11 .loop .inv .2) (b10 .loop-test .taken) (b6 .wide .ensures .1) (b6 .wide .ensures .0) (b4 .wide2 .ensures .0) (c .before .offends-by .ensures)
+    (c .if2 .taken) (b12 .pre)
 
 array-read-or-call : tie.Need-array-read-or-call Inv-loop μ-loop
 array-read-or-call c = search needs
@@ -76,7 +86,17 @@ loop-less-2 : tie.Need-loop-less-2 Inv-loop μ-loop
 loop-less-2 c = search needs
 
 loop-again-2 : tie.Need-loop-again-2 Inv-loop μ-loop
-loop-again-2 c = (more-marks (c .before .before .before .before .before .before .before .before .before .before .before .before .loop .inv .0) (c .before .before .before .before .before .before .before .wide .ensures .1) (c .before .before .before .before .before .before .before .wide .ensures .0) (c .or-call .ensures), omega arith, passes (c .before .before .before .before .before .before .before .before .before .before .before .before .loop .inv .0) (c .before .before .before .before .before .before .before .before .before .before .before .before .loop .inv .2) (c .before .before .before .before .before .before .before .before .before .before .before .loop-test .taken) (c .before .before .before .before .before .before .before .wide .ensures .1) (c .before .before .before .before .before .before .before .wide .ensures .0) (c .before .before .before .before .before .wide2 .ensures .0) (c .before .before .offends-by .ensures) (c .before .if2 .left))
+loop-again-2 c =
+    let b2 = c .before .before in
+    let b5 = b2 .before .before .before in
+    let b7 = b5 .before .before in
+    let b11 = b7 .before .before .before .before in
+    let b12 = b11 .before in (
+      more-flags (b12 .loop .inv .0) (b7 .wide .ensures .1) (b7 .wide .ensures .0) (c .or-call .ensures),
+      omega arith,
+      passes (b12 .loop .inv .0) (b12 .loop .inv .2)
+          (b11 .loop-test .taken) (b7 .wide .ensures .1) (b7 .wide .ensures .0) (b5 .wide2 .ensures .0) (b2 .offends-by .ensures) (c .before .if2 .left),
+    )
 
 returns-2 : tie.Need-returns-2 Inv-loop μ-loop
 returns-2 c = ends (c .before .loop .inv .2) (c .loop-test .left)

@@ -1,14 +1,13 @@
 -- `scopes::with_own` meets its contract. Assumes nothing.
 use native.Mathlib.Omega.{arith}
-use borrow.Author.Tests.{eq-eqb, ne-eqb}
 use borrow.Author.Needs.{needs}
-use Rattle.masks.proofs.Bits.{shifted}
+use Rattle.bits.proofs.Bits.{shifted}
 use Rattle.scopes.specs.Scope.{inner}
 use Rattle.scopes.proofs.with_own.Statement.{statement}
 use Rattle.scopes.proofs.with_own.Tie as tie
 
-form-of-requires : tie.Need-form-of-requires
-form-of-requires c κs = search needs
+is-requires : tie.Need-is-requires
+is-requires c κs = search needs
 
 item-of-requires : tie.Need-item-of-requires
 item-of-requires c κs = search needs
@@ -23,12 +22,12 @@ returns : tie.Need-returns
 unfolding inner
 returns c =
     let b2 = c .before .before in
-    rw (← b2 .form-of .ensures, eq-eqb (b2 .form-of .result) 5 (c .before .if1 .taken), ← c .item-of .ensures, shifted (c .item-of .result) (omega (arith, c .item-of .ensures)))
+    rw (← b2 .is .ensures, c .before .if1 .taken, ← c .item-of .ensures, shifted (c .item-of .result) (omega (arith, c .item-of .ensures)))
 
 returns-2 : tie.Need-returns-2
 unfolding inner
-returns-2 c = rw (← c .before .form-of .ensures, ne-eqb (c .before .form-of .result) 5 (c .if1 .left))
+returns-2 c = rw (← c .before .is .ensures, c .if1 .left)
 
 pub with-own-spec : {M : Type 1} → statement M
 with-own-spec =
-    tie.close (tie.spec form-of-requires item-of-requires cast-result shl-result returns returns-2)
+    tie.close (tie.spec is-requires item-of-requires cast-result shl-result returns returns-2)

@@ -3,21 +3,44 @@ use mathlib.Core.Path.{_≡_, ap, _∙_}
 use mathlib.Core.List.{List}
 use native.Mathlib.Omega.{arith}
 use lib.IntN.{ℤ, pos}
-use lib.ListN.{replicate, length-replicate}
+use Prim.Native.Nat.{_*_}
+use lib.ListN.{length, replicate, length-replicate}
 use denote.Ref.{now}
 use borrow.Author.Needs.{needs}
 use Rattle.verdict.specs.Pair.{pair}
-use Rattle.event.specs.Calls.{run}
+use Rattle.network.specs.Network.{networkSize}
+use Rattle.event.specs.Event.{readList, entriesOf}
+use Rattle.event.specs.Calls.{answerWidth, run}
 use Rattle.calls.specs.Carried.{result}
-use Rattle.shift.specs.Replayed.{blank, outcome}
+use Rattle.calls.proofs.Laws.{of-events}
+use Rattle.shift.specs.Replayed.{mostEvents, blank, outcome}
 use Rattle.shift.proofs.Laws.{made, turned, done, fits}
 use Rattle.shift.proofs.replayed.Statement.{statement}
 use Rattle.shift.proofs.replayed.Tie as tie
 
+abbrev start : tie.After-run → tie.Start
+start c = c .before .before .before .before .before .before .before .before .before
+
+abbrev network : tie.After-run → List ℤ
+network c = c .run .last .1 .0
+
+abbrev space : tie.After-run → List ℤ
+space c = c .run .last .1 .1 .1 .0
+
 -- the run came to what the definition says
-ran : (c : tie.After-run) → result (c .run .result) (c .run .last .1 .0) (c .run .last .1 .1 .1 .0) ≡ outcome (now (c .before .before .before .before .before .before .before .before .before .args .program)) (now (c .before .before .before .before .before .before .before .before .before .args .list))
+ran : (c : tie.After-run) → result (c .run .result) (network c) (space c) ≡ outcome (now (start c .args .program)) (now (start c .args .list))
 unfolding outcome
-ran c = c .run .ensures ∙ ap (λ (n : List ℤ). run (now (c .before .before .before .before .before .before .before .before .before .args .program)) n (now (c .before .before .before .before .before .before .before .before .before .args .list)) blank) (made (replicate 8464 (pos 0)) (c .before .before .before .before .fresh .last .0) (pair (c .before .before .before .before .fresh .result)) (length-replicate 8464 (pos 0)) (c .before .before .before .before .fresh .ensures))
+ran c =
+    let f = c .before .before .before .before .fresh in
+    c .run .ensures ∙ ap (λ (n : List ℤ). run (now (start c .args .program)) n (now (start c .args .list)) blank)
+    (made (replicate networkSize (pos 0)) (f .last .0) (pair (f .result)) (length-replicate networkSize (pos 0)) (f .ensures))
+
+-- behind the test of its verdict, and how many events there are
+abbrev done-by : tie.After-struct-known → tie.After-run
+done-by c = c .before .before .before
+
+many : (c : tie.After-count-events) → c .count-events .result .events ≡ length (entriesOf (readList (now (start (done-by (c .before .before)) .args .list))))
+many c = of-events (readList (now (start (done-by (c .before .before)) .args .list))) _ (c .count-events .ensures)
 
 slice-aggregate-fresh : tie.Need-slice-aggregate-fresh
 slice-aggregate-fresh c = search needs
@@ -44,22 +67,37 @@ same-length : tie.Need-same-length
 same-length c = search needs
 
 returns : tie.Need-returns
-returns c = rw (turned (now (c .before .before .before .before .before .before .before .before .before .before .before .before .before .before .before .before .before .before .args .program)) (now (c .before .before .before .before .before .before .before .before .before .before .before .before .before .before .before .before .before .before .args .list)) (c .before .before .before .before .before .before .before .before .before .run .result) (c .before .before .before .before .before .before .before .before .before .run .last .1 .0) (c .before .before .before .before .before .before .before .before .before .run .last .1 .1 .1 .0) (ran (c .before .before .before .before .before .before .before .before .before)) (c .before .before .before .before .before .if1 .taken)) at (c .before .before .put-refused .ensures)
+returns c =
+    let p = c .before .before in
+    let t = p .before .before .before in
+    let r = done-by (t .before) in
+    rw (turned (now (start r .args .program)) (now (start r .args .list)) (r .run .result) (network r) (space r) (ran r) (t .if1 .taken)) at (p .put-refused .ensures)
 
-count-requires : tie.Need-count-requires
-count-requires c κs = search needs
+count-events-requires : tie.Need-count-events-requires
+count-events-requires c κs = search needs
 
 slice-aggregate-put-lines : tie.Need-slice-aggregate-put-lines
 slice-aggregate-put-lines c = search needs
 
 put-lines-requires : tie.Need-put-lines-requires
-put-lines-requires c κs = let h = fits (now (c .before .before .before .before .before .before .before .before .before .before .before .before .before .before .before .before .args .program)) (now (c .before .before .before .before .before .before .before .before .before .before .before .before .before .before .before .before .args .list)) (c .before .before .before .before .before .before .before .run .result) (c .before .before .before .before .before .before .before .run .last .1 .0) (c .before .before .before .before .before .before .before .run .last .1 .1 .1 .0) (ran (c .before .before .before .before .before .before .before)) (c .before .before .count .result) (c .before .before .count .ensures) (c .before .before .before .if1 .left) in (omega (arith, c .before .before .before .before .before .before .before .run .kept .1 .1 .1 .0, length-replicate 2048 (pos 0)), omega arith)
+put-lines-requires c κs =
+    let k = c .before .before in
+    let t = k .before in
+    let r = done-by (t .before) in
+    let h = fits (now (start r .args .program)) (now (start r .args .list)) (r .run .result) (network r) (space r) (ran r) (k .count-events .result .events) (many k) (t .if1 .left) in
+    (omega (arith, r .run .kept .1 .1 .1 .0), omega (arith, h, start r .pre, length-replicate (answerWidth * mostEvents) (pos 0)))
 
 same-length-2 : tie.Need-same-length-2
 same-length-2 c = search needs
 
 returns-2 : tie.Need-returns-2
-returns-2 c = rw (done (now (c .before .before .before .before .before .before .before .before .before .before .before .before .before .before .before .before .before .before .before .args .program)) (now (c .before .before .before .before .before .before .before .before .before .before .before .before .before .before .before .before .before .before .before .args .list)) (c .before .before .before .before .before .before .before .before .before .before .run .result) (c .before .before .before .before .before .before .before .before .before .before .run .last .1 .0) (c .before .before .before .before .before .before .before .before .before .before .run .last .1 .1 .1 .0) (ran (c .before .before .before .before .before .before .before .before .before .before)) (c .before .before .before .before .before .count .result) (c .before .before .before .before .before .count .ensures) (c .before .before .before .before .before .before .if1 .left)) at (c .before .before .put-lines .ensures)
+returns-2 c =
+    let p = c .before .before in
+    let k = p .before .before .before in
+    let t = k .before in
+    let r = done-by (t .before) in
+    rw (done (now (start r .args .program)) (now (start r .args .list)) (r .run .result) (network r) (space r) (ran r) (k .count-events .result .events) (many k) (t .if1 .left)) at
+    (p .put-lines .ensures)
 
 pub replayed-spec : {M : Type 1} → statement M
 replayed-spec =
@@ -74,7 +112,7 @@ replayed-spec =
     put-refused-requires
     same-length
     returns
-    count-requires
+    count-events-requires
     slice-aggregate-put-lines
     put-lines-requires
     same-length-2

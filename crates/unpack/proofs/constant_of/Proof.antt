@@ -13,13 +13,22 @@ cast-result : tie.Need-cast-result
 cast-result c = search needs
 
 sub-result : tie.Need-sub-result
-sub-result c = let h : (c .args .w / 4294967296) < 4294967296 = search needs in rw (wide-read (c .args .w / 4294967296) h) (sfits-widen tt (constant-fits (c .args .w / 4294967296) h))
+sub-result c =
+    let m = c .args .w / 4294967296 in
+    let h : m < 4294967296 = search needs in
+    rw (wide-read m h) (sfits-widen tt (constant-fits m h))
 
 cast-result-2 : tie.Need-cast-result-2
-cast-result-2 c = let h : (c .args .w / 4294967296) < 4294967296 = search needs in rw (wide-read (c .args .w / 4294967296) h, toZ-ofZ w64 (pos (c .args .w / 4294967296) -ℤ pos 2147483648) (sfits-widen tt (constant-fits (c .args .w / 4294967296) h))) (constant-fits (c .args .w / 4294967296) h)
+cast-result-2 c =
+    let m = c .args .w / 4294967296 in
+    let h : m < 4294967296 = search needs in
+    rw (wide-read m h, toZ-ofZ w64 (pos m -ℤ pos 2147483648) (sfits-widen tt (constant-fits m h))) (constant-fits m h)
 
 returns : tie.Need-returns
-returns c = let h : (c .args .w / 4294967296) < 4294967296 = search needs in rw (wide-read (c .args .w / 4294967296) h, toZ-ofZ w64 (pos (c .args .w / 4294967296) -ℤ pos 2147483648) (sfits-widen tt (constant-fits (c .args .w / 4294967296) h))) (toZ-ofZ w32 (pos (c .args .w / 4294967296) -ℤ pos 2147483648) (constant-fits (c .args .w / 4294967296) h))
+returns c =
+    let m = c .args .w / 4294967296 in
+    let h : m < 4294967296 = search needs in
+    rw (wide-read m h, toZ-ofZ w64 (pos m -ℤ pos 2147483648) (sfits-widen tt (constant-fits m h))) (toZ-ofZ w32 (pos m -ℤ pos 2147483648) (constant-fits m h))
 
 pub constant-of-spec : {M : Type 1} → statement M
 constant-of-spec = tie.close (tie.spec cast-result sub-result cast-result-2 returns)

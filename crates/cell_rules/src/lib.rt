@@ -1,0 +1,62 @@
+// Which cells of a network are sound, one at a time. Devices, rows and slots are counted from 0 here.
+ghost use mathlib.Core.Path.{_≡_};
+ghost use Prim.Native.Nat.{suc, _+_, _*_, _<_};
+ghost use lib.ListN.{length};
+ghost use Rattle.network.specs.Network.{sensorsAt, heardAt, networkSize, heardSound};
+ghost use Rattle.cell_rules.specs.Sound.{soundAt, pendingFrom};
+
+pub fn sensors_sound(net: &[i32], device: usize) -> bool
+    requires { ⌜ (length (now net) ≡ networkSize) × (device < 16) ⌝ }
+    ensures { λ r. ⌜ r ≡ soundAt (now (net .entry)) device sensorsAt ⌝ }
+{
+    cells::in_range(net[device * layout::BLOCK + layout::SENSORS], 65535)
+}
+
+// Cell `slot` of the row heard from `sender`.
+fn heard_sound(device: usize, sender: usize, slot: usize, x: i32) -> bool
+    ensures { λ r. ⌜ r ≡ heardSound (suc device) (suc sender) slot x ⌝ }
+{
+    if sender == device {
+        return cells::same(x, layout::MARK);
+    }
+    if slot == 0 {
+        return cells::distance_sound(x);
+    }
+    true
+}
+
+// Cell `slot` of the row pending to `to`, whose first cell is `first`.
+fn pending_sound(device: usize, to: usize, slot: usize, first: i32, x: i32) -> bool
+    ensures { λ r. ⌜ r ≡ pendingFrom (suc device) first (suc to) slot x ⌝ }
+{
+    if slot == 0 {
+        if cells::same(x, 0) {
+            return true;
+        }
+        if to == device {
+            return false;
+        }
+        return cells::same(x, 1);
+    }
+    if cells::same(x, layout::MARK) {
+        return true;
+    }
+    if to == device {
+        return false;
+    }
+    !cells::same(first, 0)
+}
+
+// Cell `slot` of a row: rows 0 to 15 are heard from each sender, 16 to 31 are pending to each device, in the order of the cells.
+pub fn cell_sound(net: &[i32], device: usize, row: usize, slot: usize) -> bool
+    requires { ⌜ (length (now net) ≡ networkSize) × (device < 16) × (row < 32) × (slot < 16) ⌝ }
+    ensures { λ r. ⌜ r ≡ soundAt (now (net .entry)) device (heardAt 1 + row * 16 + slot) ⌝ }
+{
+    let at = device * layout::BLOCK + layout::HEARD + row * layout::ROW;
+    let first = net[at];
+    let x = net[at + slot];
+    if row < layout::DEVICES {
+        return heard_sound(device, row, slot, x);
+    }
+    pending_sound(device, row - layout::DEVICES, slot, first, x)
+}

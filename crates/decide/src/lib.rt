@@ -1,0 +1,1 @@
+// Laws only, in proofs/: a test, and what it picks.

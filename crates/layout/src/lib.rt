@@ -1,0 +1,60 @@
+// The sizes and places that code above shares, each said once. The definitions have names of their own for them, and a
+// proof that code meets its contract fails where the two differ.
+
+// Devices, senders, slots of a message, variables of a device: sixteen each.
+pub const DEVICES: usize = 16;
+
+// A cell with no number in it: the mark of document 01.
+pub const MARK: i32 = -2147483648;
+
+// Its 32 bits, as a program has a constant.
+pub const MARK_BITS: u32 = 2147483648;
+
+// A device's cells: its variables, then its sensors, a row heard from each sender, a row pending to each hearer.
+pub const ROW: usize = 16;
+
+pub const SENSORS: usize = 16;
+
+pub const HEARD: usize = 17;
+
+pub const PENDING: usize = HEARD + DEVICES * ROW;
+
+pub const BLOCK: usize = PENDING + DEVICES * ROW;
+
+// What a round reads of them: those up to the messages.
+pub const OWN: usize = PENDING;
+
+// A network.
+pub const CELLS: usize = DEVICES * BLOCK;
+
+// A program's nodes.
+pub const NODES: usize = 256;
+
+// What a search for a node answers where there is none.
+pub const NO_NODE: u16 = NODES as u16;
+
+// Its definitions, at most.
+pub const DEFINITIONS: usize = 32;
+
+// One for each number that a byte can be: what any byte may index.
+pub const BYTES: usize = 256;
+
+// A round's state: variables, then slots sent, then the fault, 0 or one more than the node that divided by 0.
+pub const STATE: usize = 64;
+
+pub const SENT: usize = 16;
+
+pub const FAULT: usize = 32;
+
+// Numbers in an answer.
+pub const ANSWER: usize = 2;
+
+// Bytes of a file that replay reads, at most, and of a line that it writes.
+pub const FILE: usize = 4096;
+
+pub const LINE: usize = 80;
+
+// Bytes of the shortest event in a list, and how many events a file can have at the most.
+pub const EVENT: usize = 4;
+
+pub const EVENTS: usize = FILE / EVENT;

@@ -1,4 +1,0 @@
-pub mod Walk
-pub mod Rows
-pub mod Kids
-pub mod Marks

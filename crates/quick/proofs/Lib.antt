@@ -1,0 +1,3 @@
+mod Below
+mod Lessers
+mod Changes

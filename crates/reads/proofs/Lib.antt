@@ -1,3 +1,0 @@
-pub mod Bits
-pub mod Misread
-pub mod Notes

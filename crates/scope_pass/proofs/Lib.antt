@@ -1,0 +1,2 @@
+pub mod Misread
+pub mod Notes

@@ -1,0 +1,4 @@
+pub mod Walk
+pub mod Rows
+pub mod Kids
+pub mod Agree

@@ -1,0 +1,128 @@
+//! Pieces of work, and the time that engines take for them.
+
+use crate::engines::{Sizes, Timed};
+use std::fs::File;
+use std::hint::black_box;
+use std::os::unix::fs::FileExt;
+use std::str::from_utf8;
+use std::sync::LazyLock;
+use std::time::Instant;
+
+/// One piece of work. `times` times each list is given to one call; the time is that of one call.
+pub struct Work {
+    pub name: String,
+    pub program: Vec<u8>,
+    pub lists: Vec<Vec<u8>>,
+    pub call: Call,
+    pub times: usize,
+    /// What the calls must return.
+    pub number: u32,
+    /// How many events one call does.
+    pub events: usize,
+    /// The network before the first call, where it is not a fresh one.
+    pub start: Option<Vec<i32>>,
+}
+
+#[derive(Clone, Copy)]
+pub enum Call {
+    Check,
+    Fresh,
+    Event,
+    Run,
+}
+
+/// What a work's calls returned and left.
+#[derive(PartialEq)]
+struct Left {
+    returned: Vec<(u32, usize)>,
+    network: Vec<i32>,
+    space: Vec<i32>,
+}
+
+/// For how many nanoseconds this program has waited for a core that others had; 0 where the system does not say.
+fn waited() -> i64 {
+    static COUNTS: LazyLock<Option<File>> = LazyLock::new(|| File::open("/proc/thread-self/schedstat").ok());
+    let mut text = [0; 64];
+    let length = COUNTS.as_ref().and_then(|file| file.read_at(&mut text, 0).ok()).unwrap_or(0);
+    let mut words = text[..length].split(|byte| *byte == b' ');
+    words.nth(1).and_then(|nanos| from_utf8(nanos).ok()?.parse().ok()).unwrap_or(0)
+}
+
+/// A clock in nanoseconds that stands still while this program waits for a core.
+fn clock() -> i64 {
+    static ORIGIN: LazyLock<Instant> = LazyLock::new(Instant::now);
+    loop {
+        let before = waited();
+        let elapsed = ORIGIN.elapsed().as_nanos() as i64;
+        // Unless it waited just then.
+        if waited() == before {
+            return elapsed - before;
+        }
+    }
+}
+
+impl Work {
+    fn call(&self, timed: &Timed, network: &mut [i32], list: &[u8], space: &mut [i32]) -> (u32, usize) {
+        match self.call {
+            Call::Check => timed.engine.check(&self.program),
+            Call::Fresh => timed.engine.fresh(network),
+            Call::Event => timed.engine.event(&self.program, network, list, space),
+            Call::Run => timed.engine.run(&self.program, network, list, space),
+        }
+    }
+
+    /// An engine's own network before the first call; none where the work's is of another size.
+    fn network(&self, timed: &Timed) -> Option<Vec<i32>> {
+        let Some(start) = &self.start else {
+            let mut fresh = vec![0; timed.sizes.cells];
+            assert_eq!(timed.engine.fresh(&mut fresh), (0, 0));
+            return Some(fresh);
+        };
+        (start.len() == timed.sizes.cells).then(|| start.clone())
+    }
+
+    /// The time of a call in nanoseconds, and what was left.
+    fn time(&self, timed: &Timed) -> Option<(f64, Left)> {
+        let mut network = self.network(timed)?;
+        // Not of zeros, which would be given memory only when the calls write.
+        let mut space = vec![1; timed.sizes.answer * self.events];
+        let mut returned = vec![(0, 0); self.lists.len()];
+        let start = clock();
+        for _ in 0..self.times {
+            for (list, returned) in self.lists.iter().zip(&mut returned) {
+                *returned = black_box(self.call(timed, &mut network, black_box(list), &mut space));
+            }
+        }
+        let nanos = clock() - start;
+        let calls = self.times * self.lists.len();
+        Some((nanos as f64 / calls as f64, Left { returned, network, space }))
+    }
+
+    /// What each engine took in each round, in nanoseconds; nothing for one that cannot begin with the work's network.
+    /// Engines of the same sizes must do the same.
+    pub fn measure(&self, engines: &[Timed], rounds: usize) -> Vec<Vec<f64>> {
+        let mut times = vec![vec![]; engines.len()];
+        for round in 0..rounds {
+            let mut lefts: Vec<(Sizes, Left)> = vec![];
+            for which in order(round, engines.len()) {
+                let timed = &engines[which];
+                let Some((time, left)) = self.time(timed) else { continue };
+                times[which].push(time);
+                let (engine, name) = (timed.engine.name(), &self.name);
+                assert!(left.returned.iter().all(|(number, _)| *number == self.number), "{engine}: {name}");
+                let other = lefts.iter().find(|(sizes, _)| *sizes == timed.sizes);
+                assert!(other.is_none_or(|(_, other)| *other == left), "{engine} differs: {name}");
+                lefts.push((timed.sizes, left));
+            }
+        }
+        times
+    }
+}
+
+/// The engines in a round's order: each round begins with the next one, and every other time that all have begun they
+/// follow each other backwards, so that none comes more often than another after a third.
+fn order(round: usize, count: usize) -> impl Iterator<Item = usize> {
+    let forward = move |turn| (round + turn) % count;
+    let backward = round / count % 2 == 1;
+    (0..count).map(move |turn| if backward { count - 1 - forward(turn) } else { forward(turn) })
+}

@@ -1,0 +1,216 @@
+//! The works that are timed.
+
+use crate::engines::table;
+use crate::work::{Call, Work};
+use cases::grow::{self, Shape};
+use cases::random::Random;
+use cases::table::{Draft, Tree};
+use cases::{events, network};
+use differ::{Engine, Second};
+
+/// Sixteen devices, device 1 lit, each linked to its neighbours `near`: every device fires and is heard, in turn.
+fn fleet(near: impl Fn(u8) -> Vec<u8>, count: usize) -> Vec<Vec<u8>> {
+    let mut list = vec![events::signal(1, 1, 1)];
+    for a in 1..=16 {
+        list.extend(near(a).into_iter().map(|b| events::link(a, b, 10)));
+    }
+    while list.len() < count {
+        for a in 1..=16 {
+            list.push(events::fire(a));
+            list.extend(near(a).into_iter().map(|b| events::deliver(a, b)));
+        }
+    }
+    list.truncate(count);
+    list
+}
+
+/// A fleet in a square: each device hears those beside, before and behind it.
+fn grid(count: usize) -> Vec<Vec<u8>> {
+    let near = |a: u8| -> Vec<u8> {
+        let (row, column) = ((a - 1) / 4, (a - 1) % 4);
+        (1..=16).filter(|b| (row.abs_diff((b - 1) / 4) + column.abs_diff((b - 1) % 4)) == 1).collect()
+    };
+    fleet(near, count)
+}
+
+/// A fleet in a ring: each device hears the one on either side, every fourth the one opposite too.
+fn ring(count: usize) -> Vec<Vec<u8>> {
+    let near = |a: u8| -> Vec<u8> {
+        let steps: &[u8] = if a % 4 == 1 { &[1, 8, 15] } else { &[1, 15] };
+        steps.iter().map(|step| (a - 1 + step) % 16 + 1).collect()
+    };
+    fleet(near, count)
+}
+
+/// A program of 200 nodes that calculates: operators in a chain, with constants.
+fn arithmetic() -> Vec<u8> {
+    let mut main = Tree::new(4, &[], vec![Tree::constant(1)]);
+    let mut o = 0;
+    while main.size() < 200 {
+        main = Tree::new(3, &[o % 3], vec![main, Tree::constant(i32::from(o) + 1)]);
+        o = (o + 1) % 9;
+    }
+    assert_eq!(main.size(), 200);
+    table(&Draft { definitions: vec![], main, orphans: vec![] })
+}
+
+/// Operators with halves of equal size below them, `size` nodes in all (odd).
+fn balanced(size: usize) -> Tree {
+    if size < 3 {
+        return Tree::constant(size as i32);
+    }
+    let left = ((size - 1) / 2) | 1;
+    Tree::new(3, &[(size % 3) as u8], vec![balanced(left), balanced(size - 1 - left)])
+}
+
+/// Folds a field of eight nbrs, joined by sums; after each sum a constant is multiplied or subtracted.
+fn fields() -> Vec<u8> {
+    let nbr = |slot: u8, child: Tree| Tree::new(8, &[slot], vec![child]);
+    let mut field = nbr(1, Tree::new(4, &[], vec![Tree::constant(1)]));
+    for slot in 2..=8 {
+        field = Tree::sum(field, nbr(slot, Tree::constant(slot.into())));
+        field = Tree::new(3, &[1 + slot % 2], vec![field, Tree::constant(3)]);
+    }
+    let main = Tree::new(10, &[0], vec![Tree::constant(0), field]);
+    table(&Draft { definitions: vec![], main, orphans: vec![] })
+}
+
+/// Costs exactly 1,000,000. Each definition calls the one before it twice with two arguments; main folds what device 1 hears
+/// by the last of them, and calls them until the cost is spent.
+fn folds_and_calls() -> Draft {
+    const LAST: u8 = 12;
+    let parameter = |p: u8| Tree::new(1, &[p], vec![]);
+    let mut definitions = vec![(2, Tree::sum(parameter(0), parameter(1)))];
+    for below in 0..LAST {
+        let call = |p, q| Tree::new(12, &[below], vec![parameter(p), parameter(q)]);
+        definitions.push((2, Tree::sum(call(0, 1), call(1, 0))));
+    }
+    let body = |level: u8| 10 * (1_u32 << level) - 7;
+    let heard = Tree::new(8, &[1], vec![Tree::constant(1)]);
+    let mut main = Tree::new(11, &[LAST], vec![Tree::constant(0), heard]);
+    let mut spent = 4 + 15 * body(LAST);
+    for level in (0..=LAST).rev() {
+        while spent + body(level) + 4 <= 1_000_000 {
+            let call = Tree::new(12, &[level], vec![Tree::constant(1), Tree::constant(2)]);
+            main = Tree::sum(main, call);
+            spent += body(level) + 4;
+        }
+    }
+    while spent < 1_000_000 {
+        main = Tree::new(4, &[], vec![main]);
+        spent += 1;
+    }
+    Draft { definitions, main, orphans: vec![] }
+}
+
+/// A fresh network in which device 1 has heard all others in slot 1.
+fn hears_all() -> Vec<i32> {
+    let mut cells = network::fresh();
+    (2..=16).for_each(|b| cells[network::heard(1, b, 1)] = b as i32);
+    cells
+}
+
+fn mostly_refused(count: usize) -> Vec<Vec<u8>> {
+    let random = &mut Random::new(3, 3);
+    let event = |at: usize| match at % 10 {
+        0 => events::fire(1),
+        1..=4 => events::deliver(1 + random.below(16) as u8, 17),
+        5..=7 => events::deliver(1, 2),
+        _ => events::link(3, 3, 5),
+    };
+    (0..count).map(event).collect()
+}
+
+/// A call of run.
+fn run(name: &str, program: &[u8], list: Vec<Vec<u8>>, times: usize) -> Work {
+    let call = Call::Run;
+    Work { events: list.len(), call, ..event(name, program, vec![list.concat()], times) }
+}
+
+/// Calls of event, one for each list.
+fn event(name: &str, program: &[u8], lists: Vec<Vec<u8>>, times: usize) -> Work {
+    let (name, program, call) = (name.into(), program.to_vec(), Call::Event);
+    Work { name, program, lists, call, times, number: 0, events: 1, start: None }
+}
+
+/// Calls of check.
+fn check(name: &str, draft: &Draft, number: u32) -> Work {
+    Work { number, events: 0, call: Call::Check, ..event(name, &table(draft), vec![vec![]], 1_000) }
+}
+
+fn distance_to() -> Vec<u8> {
+    table(&grow::distance_to([1, 2], 0))
+}
+
+/// Runs on a whole fleet.
+fn fleets() -> Vec<Work> {
+    let level = Draft { definitions: vec![], main: balanced(199), orphans: vec![] };
+    assert_eq!(level.size(), 199);
+    vec![
+        run("run of 20,000 events: distance-to, a grid of 16 devices", &distance_to(), grid(20_000), 1),
+        run("the same with 199 nodes of arithmetic, halves below halves", &table(&level), grid(20_000), 1),
+        run("the same with 200 nodes of arithmetic in a chain, 100 deep", &arithmetic(), grid(20_000), 1),
+        run("the same with a fold of eight nbrs, sums and constants between them", &fields(), grid(20_000), 1),
+        run("run of 20,000 events: distance-to, a ring, each hears two or three", &distance_to(), ring(20_000), 1),
+    ]
+}
+
+/// Single fires that cost all that one may.
+fn dear_fires() -> Vec<Work> {
+    let calls = Draft { definitions: grow::tower(19), main: grow::spend(19, 1_000_000), orphans: vec![] };
+    let mut folds = folds_and_calls();
+    let folds_table = &table(&folds);
+    folds.main = Tree::new(4, &[], vec![folds.main]);
+    assert_eq!(Second.check(&table(&folds)), (10, 0), "one more is too much");
+    let fire = |name: &str, program: &[u8]| event(name, program, vec![events::fire(1)], 1);
+    vec![
+        fire("one fire of a program that costs 1,000,000: calls without arguments", &table(&calls)),
+        Work {
+            start: Some(hears_all()),
+            ..fire("the same: a fold by definition, calls with two arguments", folds_table)
+        },
+    ]
+}
+
+/// An event a call.
+fn single_events() -> Vec<Work> {
+    let program = &distance_to();
+    let mut all = vec![
+        event("one event, distance-to: fire", program, vec![events::fire(1)], 1_000),
+        event("one event: signal", program, vec![events::signal(1, 1, 1)], 1_000),
+        event("one event: link", program, vec![events::link(1, 2, 10)], 1_000),
+    ];
+    for (name, end) in [("deliver", events::deliver(1, 2)), ("lose", events::lose(1, 2))] {
+        let lists = vec![events::link(1, 2, 10), events::fire(1), end];
+        all.push(event(&format!("one event, in turn link, fire, {name}: each"), program, lists, 350));
+    }
+    all
+}
+
+/// What is done without events.
+fn checks() -> Vec<Work> {
+    let shape = Shape { nodes: 256, definitions: 8, cost: 4_000, spare: 0, deep: 20 };
+    let mut full = grow::accepted(shape, &mut Random::new(8, 8));
+    grow::pad(&mut full, 256);
+    assert_eq!(full.size(), 256);
+    let tower = Draft { definitions: grow::tower(32), main: Tree::new(12, &[31], vec![]), orphans: vec![] };
+    vec![
+        check("check of 256 nodes", &full, 0),
+        check("check of a tower of 32 definitions, refused with 10", &tower, 10),
+        Work { call: Call::Fresh, ..check("fresh", &tower, 0) },
+    ]
+}
+
+/// The works of the first table.
+pub fn all() -> Vec<Work> {
+    let refused = mostly_refused(20_000);
+    let refused = run("run of 20,000 events, nine in ten refused (14, 15, 16)", &distance_to(), refused, 1);
+    [fleets(), dear_fires(), single_events(), checks(), vec![refused]].into_iter().flatten().collect()
+}
+
+/// Runs of ever more events.
+pub fn growth() -> Vec<Work> {
+    [(0, 1_000), (1_000, 20), (10_000, 1), (100_000, 1)]
+        .map(|(count, times)| run(&format!("{count}"), &distance_to(), grid(count), times))
+        .into()
+}
