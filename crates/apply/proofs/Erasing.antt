@@ -10,6 +10,7 @@ use lib.ListN.{length, getD, set, length-set, length-take}
 use lib.Seq.{ext-getD, getD-set-same, getD-set-other}
 use borrow.Author.Tests.{eq-eqb, eqb-true, eqb-false}
 use Rattle.number.specs.Number.{mark}
+use Rattle.decide.proofs.Picks.{by-rest}
 use Rattle.program.specs.Table.{among}
 use Rattle.round.specs.Round.{State, stored, erased}
 use Rattle.domain.specs.Members.{members}
@@ -73,17 +74,13 @@ wiped-more d r k j st q e = rw (q, e)
 abbrev Low : List ℕ → Type 0
 Low ks = (k : ℕ) → among k ks ≡ true → k < 16
 
-or-right : (a b : Bool) → b ≡ true → a || b ≡ true
-or-right true b e = refl
-or-right false b e = e
-
 low-first : (k : ℕ) (ks : List ℕ) → Low (k ∷ ks) → k < 16
 unfolding among
 low-first k ks h = h k (ap (λ (b : Bool). b || among k ks) (eq-eqb k k refl))
 
 low-rest : (k : ℕ) (ks : List ℕ) → Low (k ∷ ks) → Low ks
 unfolding among
-low-rest k ks h j e = h j (or-right (eqb j k) (among j ks) e)
+low-rest k ks h j e = h j (by-rest (eqb j k) e)
 
 state-wiped : (ks : List ℕ) (st : List ℤ) → Low ks → stateOf (wiped ks st) ≡ erased ks (stateOf st)
 unfolding erased

@@ -15,7 +15,7 @@ use mir.Facts.{sfits-lit}
 use Rattle.number.specs.Number.{Operator, result, faults}
 use Rattle.field.specs.Field.{Field, pointwise, faultsIn}
 use Rattle.round.specs.Round.{State, Value, number, field, Outcome, done, fault, thenValue, thenNumber, fieldOf, stored, sending, operated, onNumbers, onFields}
-use Rattle.apply.specs.State.{sentAt, faultAt, stateOf, faultOf, Leaves}
+use Rattle.apply.specs.State.{sentAt, faultAt, stateOf, faultOf, LeftBy}
 use Rattle.arith.proofs.Signs.{same-bits}
 
 -- ---- a cell stored
@@ -42,7 +42,7 @@ module _ (st : List ℤ) where
 one-more : (n : ℕ) → pos (n + 1) ≡ pos 0 → ⊥
 one-more n e = let q : n + 1 ≡ 0 = cc in omega arith
 
-pub came : {o : Outcome} {v : Value} {st : List ℤ} → Leaves o v st → faultOf st ≡ pos 0 → o ≡ done v (stateOf st)
+pub came : {o : Outcome} {v : Value} {st : List ℤ} → LeftBy o v st → faultOf st ≡ pos 0 → o ≡ done v (stateOf st)
 came {o = done w s} g z = ap₂ done (g .left .0) (sym (g .left .1))
 came {o = fault n} g z = absurd (one-more n (sym (g .left) ∙ z))
 
@@ -50,23 +50,23 @@ pub clear : (st : List ℤ) → SFits w32 (faultOf st) → ofZ w32 (faultOf st) 
 clear st f z = same-bits w32 (faultOf st) (pos 0) f (sfits-lit tt) z
 
 -- there is no fault, and it goes on
-pub goes : {o : Outcome} {v : Value} {st : List ℤ} (k : Value → State → Outcome) → Leaves o v st → SFits w32 (faultOf st) → ofZ w32 (faultOf st) ≡ 0
+pub goes : {o : Outcome} {v : Value} {st : List ℤ} (k : Value → State → Outcome) → LeftBy o v st → SFits w32 (faultOf st) → ofZ w32 (faultOf st) ≡ 0
     → thenValue o k ≡ k v (stateOf st)
 goes {st = st} k g f z = ap (λ (p : Outcome). thenValue p k) (came g (clear st f z))
 
 -- there is one, and that is the outcome
-pub fails : {o : Outcome} {v : Value} {st : List ℤ} (k : Value → State → Outcome) (w : Value) → Leaves o v st → (ofZ w32 (faultOf st) ≡ 0 → ⊥) → Leaves (thenValue o k) w st
+pub fails : {o : Outcome} {v : Value} {st : List ℤ} (k : Value → State → Outcome) (w : Value) → LeftBy o v st → (ofZ w32 (faultOf st) ≡ 0 → ⊥) → LeftBy (thenValue o k) w st
 fails {o = done u s} k w g z = absurd (z (ap (ofZ w32) (g .left .2)))
 fails {o = fault n} k w g z = record { left = g .left }
 
-pub gives : {d e : Outcome} {v : Value} {st : List ℤ} → d ≡ e → Leaves e v st → Leaves d v st
+pub gives : {d e : Outcome} {v : Value} {st : List ℤ} → d ≡ e → LeftBy e v st → LeftBy d v st
 gives q g = rw q g
 
 -- a number that comes back is read again
-pub passed : {e : Outcome} {v : ℤ} {st : List ℤ} → SFits w32 v → Leaves e (number v) st → Leaves e (number (toZ w32 (ofZ w32 v))) st
+pub passed : {e : Outcome} {v : ℤ} {st : List ℤ} → SFits w32 v → LeftBy e (number v) st → LeftBy e (number (toZ w32 (ofZ w32 v))) st
 passed {v = v} f g = rw (toZ-ofZ w32 v f) g
 
-pub gave : {v w : Value} {s : State} {st : List ℤ} → v ≡ w → stateOf st ≡ s → faultOf st ≡ pos 0 → Leaves (done v s) w st
+pub gave : {v w : Value} {s : State} {st : List ℤ} → v ≡ w → stateOf st ≡ s → faultOf st ≡ pos 0 → LeftBy (done v s) w st
 gave p q z = record { left = (p, q, z) }
 
 -- ---- an operator's sides
@@ -85,10 +85,10 @@ on-numbers n o x y s = refl
 
 -- ---- an operator, by whether it divides by 0
 module _ (n : ℕ) (o : Operator) {w : Value} {st : List ℤ} where
-  pub numbers-fault : (x y : ℤ) (s : State) → faults o y ≡ true → faultOf st ≡ pos (n + 1) → Leaves (onNumbers n o x y s) w st
+  pub numbers-fault : (x y : ℤ) (s : State) → faults o y ≡ true → faultOf st ≡ pos (n + 1) → LeftBy (onNumbers n o x y s) w st
   numbers-fault x y s e f = rw e record { left = f }
 
-  pub fields-fault : (f g : Field) (s : State) → faultsIn o f g ≡ true → faultOf st ≡ pos (n + 1) → Leaves (onFields n o f g s) w st
+  pub fields-fault : (f g : Field) (s : State) → faultsIn o f g ≡ true → faultOf st ≡ pos (n + 1) → LeftBy (onFields n o f g s) w st
   fields-fault f g s e h = rw e record { left = h }
 
 module _ (n : ℕ) (o : Operator) where
@@ -103,11 +103,11 @@ module _ (n : ℕ) (o : Operator) where
 
 -- numbers that were passed on
 pub numbers-read : (n : ℕ) (o : Operator) (s : State) {w : Value} {r : List ℤ} (x y : ℤ) → SFits w32 x → SFits w32 y
-    → Leaves (onNumbers n o (toZ w32 (ofZ w32 x)) (toZ w32 (ofZ w32 y)) s) w r → Leaves (onNumbers n o x y s) w r
+    → LeftBy (onNumbers n o (toZ w32 (ofZ w32 x)) (toZ w32 (ofZ w32 y)) s) w r → LeftBy (onNumbers n o x y s) w r
 numbers-read n o s x y f g h = rw (toZ-ofZ w32 x f, toZ-ofZ w32 y g) at h
 
 -- ---- in a fold
-pub then-fault : {o : Outcome} {w : Value} {n : ℕ} {st : List ℤ} (k : Value → State → Outcome) → o ≡ fault n → faultOf st ≡ pos (n + 1) → Leaves (thenValue o k) w st
+pub then-fault : {o : Outcome} {w : Value} {n : ℕ} {st : List ℤ} (k : Value → State → Outcome) → o ≡ fault n → faultOf st ≡ pos (n + 1) → LeftBy (thenValue o k) w st
 then-fault k e f = rw e record { left = f }
 
 pub then-done : {o : Outcome} {x : ℤ} {s : State} (k : ℤ → State → Outcome) → o ≡ done (number x) s → thenNumber o k ≡ k x s
@@ -115,8 +115,8 @@ then-done k e = rw e
 
 -- ---- a node that stores a variable, or sends a slot
 module _ (st : List ℤ) (i : ℕ) {x z : ℤ} (h : i < 16) (e : z ≡ x) (c : faultOf st ≡ pos 0) where
-  pub stores : Leaves (done (number x) (stored i x (stateOf st))) (number z) (set st i z)
+  pub stores : LeftBy (done (number x) (stored i x (stateOf st))) (number z) (set st i z)
   stores = rw (← e) (gave refl (state-stored st i z h) (fault-kept st i z (omega arith) ∙ c))
 
-  pub sends : {f g : Field} → f ≡ g → Leaves (done (field f) (sending i x (stateOf st))) (field g) (set st (sentAt + i) z)
+  pub sends : {f g : Field} → f ≡ g → LeftBy (done (field f) (sending i x (stateOf st))) (field g) (set st (sentAt + i) z)
   sends q = rw (← e) (gave (ap field q) (state-sending st i z h) (fault-kept st (sentAt + i) z (omega arith) ∙ c))

@@ -12,9 +12,10 @@ use mir.Val.{Fits, SFits, toZ}
 use mir.ValLaws.{toZ-ofZ}
 use borrow.Author.Tests.{ltb-true, ltb-false, lt-ltb, le-ltb}
 use Rattle.round.specs.Round.{sensed}
+use Rattle.words.specs.Word.{nodeNumbers}
 
 -- ---- a node's number and one more
-module _ (n : ℕ) (h : n < 1024) where
+module _ (n : ℕ) (h : n < nodeNumbers) where
   pub small-read : toZ w32 n ≡ pos n
   small-read = toZ-ofZ w32 (pos n) record { sfits = omega arith }
 

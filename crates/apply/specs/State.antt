@@ -34,21 +34,21 @@ abbrev pub Left : Outcome → Value → List ℤ → Type 0
 Left (done v s) w st = (v ≡ w) × (stateOf st ≡ s) × (faultOf st ≡ pos 0)
 Left (fault n) w st = faultOf st ≡ pos (n + 1)
 
-pub record Leaves (o : Outcome) (w : Value) (st : List ℤ) : Type 0 where
+pub record LeftBy (o : Outcome) (w : Value) (st : List ℤ) : Type 0 where
   pub left : Left o w st
 
 -- a number, a field
 abbrev pub Gives : Outcome → ℤ → List ℤ → Type 0
-Gives o r st = Leaves o (number r) st
+Gives o r st = LeftBy o (number r) st
 
 abbrev pub GivesField : Outcome → Held → List ℤ → Type 0
-GivesField o f st = Leaves o (field (held f)) st
+GivesField o f st = LeftBy o (field (held f)) st
 
 -- a side of an operator, as a field: a number is at each device. k is its node's form
 pub record GivesSide (o : Outcome) (k : ℕ) (f : Held) (st : List ℤ) : Type 0 where
   pub value : Value
-  pub leaves : Leaves o value st
-  pub spread : fieldOf value ≡ held f
+  pub leaves : LeftBy o value st
+  pub asField : fieldOf value ≡ held f
   pub sort : fieldForms ≤ k → value ≡ field (held f)
 
 -- a step of a fold by the lesser of two numbers

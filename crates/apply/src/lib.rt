@@ -10,12 +10,13 @@ ghost use lib.IntN.{pos};
 ghost use Rattle.number.specs.Number.{div, operatorOf};
 ghost use Rattle.domain.specs.Held.{fieldOf};
 ghost use Rattle.round.specs.Round.{State, number, done, onNumbers, onFields, folded, isTrue, sensed};
+ghost use Rattle.words.specs.Word.{nodeNumbers};
 ghost use Rattle.words.specs.Sound.{lesser};
 ghost use Rattle.apply.specs.State.{stateOf, faultOf, Gives, GivesField, Erases, lessens};
 
 // Node n divided by 0. The cells go by value: of an array by value a proof knows that it has cell FAULT.
 fn faulted(st: [i32; STATE], n: u16) -> [i32; STATE]
-    requires { ⌜ n < 1024 ⌝ }
+    requires { ⌜ n < nodeNumbers ⌝ }
     ensures { λ r. ⌜ faultOf r ≡ pos (n + 1) ⌝ }
 {
     let mut cells = st;
@@ -25,7 +26,7 @@ fn faulted(st: [i32; STATE], n: u16) -> [i32; STATE]
 }
 
 fn fault(st: &mut [i32; STATE], n: u16) -> i32
-    requires { ⌜ n < 1024 ⌝ }
+    requires { ⌜ n < nodeNumbers ⌝ }
     ensures { λ r. ⌜ faultOf (now (st .exit)) ≡ pos (n + 1) ⌝ }
 {
     let cells = *st;
@@ -35,7 +36,7 @@ fn fault(st: &mut [i32; STATE], n: u16) -> i32
 
 // Node n's division of two numbers.
 fn divide(st: &mut [i32; STATE], n: u16, x: i32, y: i32) -> i32
-    requires { ⌜ (n < 1024) × (faultOf (now st) ≡ pos 0) ⌝ }
+    requires { ⌜ (n < nodeNumbers) × (faultOf (now st) ≡ pos 0) ⌝ }
     ensures { λ r. ⌜ Gives (onNumbers n div x y (stateOf (now (st .entry)))) r (now (st .exit)) ⌝ }
 {
     if y == 0 {
@@ -46,7 +47,7 @@ fn divide(st: &mut [i32; STATE], n: u16, x: i32, y: i32) -> i32
 
 // Node n's operator on two numbers. Division stands apart, so that the rest is small enough to be put in place where it is called.
 pub fn number_op(st: &mut [i32; STATE], n: u16, o: u8, x: i32, y: i32) -> i32
-    requires { ⌜ (n < 1024) × (faultOf (now st) ≡ pos 0) ⌝ }
+    requires { ⌜ (n < nodeNumbers) × (faultOf (now st) ≡ pos 0) ⌝ }
     ensures { λ r. ⌜ Gives (onNumbers n (operatorOf o) x y (stateOf (now (st .entry)))) r (now (st .exit)) ⌝ }
 {
     if o == arith::DIVISION {
@@ -65,7 +66,7 @@ pub fn field_op<'a>(
     right: u16,
     ys: &'a [i32; 16],
 ) -> domain::Held
-    requires { ⌜ (n < 1024) × (faultOf (now st) ≡ pos 0) ⌝ }
+    requires { ⌜ (n < nodeNumbers) × (faultOf (now st) ≡ pos 0) ⌝ }
     ensures { λ q. ⌜ GivesField (onFields n (operatorOf o) (fieldOf left (now (xs .entry))) (fieldOf right (now (ys .entry))) (stateOf (now (st .entry)))) q (now (st .exit)) ⌝ }
 {
     if domain::faults_in(o, left, xs, right, ys) {
@@ -77,7 +78,7 @@ pub fn field_op<'a>(
 
 // And folded over a field, lowest device first.
 pub fn fold_op(st: &mut [i32; STATE], n: u16, o: u8, from: i32, dom: u16, cells: &[i32; 16]) -> i32
-    requires { ⌜ (n < 1024) × (faultOf (now st) ≡ pos 0) ⌝ }
+    requires { ⌜ (n < nodeNumbers) × (faultOf (now st) ≡ pos 0) ⌝ }
     ensures { λ r. ⌜ Gives (folded (λ x y s. onNumbers n (operatorOf o) x y s) (fieldOf dom (now (cells .entry))) from (stateOf (now (st .entry)))) r (now (st .exit)) ⌝ }
 {
     let mut acc = from;

@@ -4,6 +4,10 @@ ghost use mathlib.Core.Bool.{false};
 ghost use lib.IntN.{pos};
 ghost use Rattle.number.specs.Number.{operatorOf, brought, plus, minus, times, over, result, faults};
 
+const INF: i32 = 2147483647;
+
+const FLOOR: i32 = -2147483647;
+
 // The operators that code asks for by name.
 pub const SUM: u8 = 0;
 
@@ -14,9 +18,9 @@ fn bring(z: i64) -> i32
     ensures { λ r. ⌜ r ≡ brought z ⌝ }
 {
     if z > 2147483647 {
-        2147483647
+        INF
     } else if z < -2147483647 {
-        -2147483647
+        FLOOR
     } else {
         z as i32
     }
@@ -26,11 +30,11 @@ fn bring(z: i64) -> i32
 pub fn add(x: i32, y: i32) -> i32
     ensures { λ r. ⌜ r ≡ plus x y ⌝ }
 {
-    if x == 2147483647 { // inf + n
-        return 2147483647;
+    if x == INF { // inf + n
+        return INF;
     }
-    if y == 2147483647 { // n + inf
-        return 2147483647;
+    if y == INF { // n + inf
+        return INF;
     }
     bring((x as i64) + (y as i64))
 }
@@ -39,11 +43,11 @@ pub fn add(x: i32, y: i32) -> i32
 pub fn sub(x: i32, y: i32) -> i32
     ensures { λ r. ⌜ r ≡ minus x y ⌝ }
 {
-    if x == 2147483647 { // inf - n
-        return 2147483647;
+    if x == INF { // inf - n
+        return INF;
     }
-    if y == 2147483647 { // n - inf
-        return -2147483647;
+    if y == INF { // n - inf
+        return FLOOR;
     }
     bring((x as i64) - (y as i64))
 }
@@ -60,13 +64,13 @@ pub fn div(x: i32, y: i32) -> i32
     requires { ⌜ (y ≡ pos 0 → ⊥) ⌝ }
     ensures { λ r. ⌜ r ≡ over x y ⌝ }
 {
-    if x == 2147483647 { // inf / n
+    if x == INF { // inf / n
         if 0 < y {
-            return 2147483647; // n > 0
+            return INF; // n > 0
         }
-        return -2147483647; // n < 0
+        return FLOOR; // n < 0
     }
-    if y == 2147483647 { // n / inf
+    if y == INF { // n / inf
         return 0;
     }
     bring((x as i64) / (y as i64))

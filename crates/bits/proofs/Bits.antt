@@ -80,7 +80,7 @@ or-bits x y (inl p) (inr q) = rw (p, q)
 or-bits x y (inr p) (inl q) = rw (p, q)
 or-bits x y (inr p) (inr q) = rw (p, q)
 
-parity : (x : ℕ) → x < 2 → (x ≡ 0) ⊎ (x ≡ 1)
+pub parity : (x : ℕ) → x < 2 → (x ≡ 0) ⊎ (x ≡ 1)
 parity zero h = inl refl
 parity (suc zero) h = inr refl
 parity (suc (suc x)) h = absurd (omega arith)

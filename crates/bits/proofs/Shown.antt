@@ -1,7 +1,7 @@
 -- Bits of a number, and the number with given bits, at examples, by computation. Assumes nothing.
 use mathlib.Core.Path.{_≡_, refl}
-use mathlib.Core.Bool.{Bool, true, false}
-use mathlib.Core.List.{List, [], _∷_}
+use mathlib.Core.Bool.{true, false}
+use mathlib.Core.List.{[], _∷_}
 use Rattle.bits.specs.Bits.{hasBit, bitsOf, allBits}
 
 -- 38 is 32 and 4 and 2

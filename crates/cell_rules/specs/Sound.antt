@@ -9,6 +9,10 @@ use Rattle.number.specs.Number.{mark, eqZ}
 use Rattle.network.specs.Cells.{row}
 use Rattle.network.specs.Network.{blockSize, cellSound}
 
+-- the rows of a block, heard and pending
+abbrev pub rowCount : ℕ
+rowCount = 32
+
 -- whether cell j of the device after a others is sound
 unfoldable pub soundAt : List ℤ → ℕ → ℕ → Bool
 soundAt n a j = cellSound (suc a) (row n (a * blockSize) blockSize) j (getD n (a * blockSize + j) (pos 0))

@@ -3,7 +3,7 @@ ghost use mathlib.Core.Path.{_≡_};
 ghost use Prim.Native.Nat.{suc, _+_, _*_, _<_};
 ghost use lib.ListN.{length};
 ghost use Rattle.network.specs.Network.{sensorsAt, heardAt, networkSize, heardSound};
-ghost use Rattle.cell_rules.specs.Sound.{soundAt, pendingFrom};
+ghost use Rattle.cell_rules.specs.Sound.{rowCount, soundAt, pendingFrom};
 
 pub fn sensors_sound(net: &[i32], device: usize) -> bool
     requires { ⌜ (length (now net) ≡ networkSize) × (device < 16) ⌝ }
@@ -49,7 +49,7 @@ fn pending_sound(device: usize, to: usize, slot: usize, first: i32, x: i32) -> b
 
 // Cell `slot` of a row: rows 0 to 15 are heard from each sender, 16 to 31 are pending to each device, in the order of the cells.
 pub fn cell_sound(net: &[i32], device: usize, row: usize, slot: usize) -> bool
-    requires { ⌜ (length (now net) ≡ networkSize) × (device < 16) × (row < 32) × (slot < 16) ⌝ }
+    requires { ⌜ (length (now net) ≡ networkSize) × (device < 16) × (row < rowCount) × (slot < 16) ⌝ }
     ensures { λ r. ⌜ r ≡ soundAt (now (net .entry)) device (heardAt 1 + row * 16 + slot) ⌝ }
 {
     let at = device * layout::BLOCK + layout::HEARD + row * layout::ROW;

@@ -1,7 +1,7 @@
 -- Events that do not clash touch no common cell, but for two signals of one device.
 use mathlib.Core.Path.{_≡_, refl, sym, ap₂, _∙_}
 use mathlib.Core.Logic.{inl, inr}
-use mathlib.Core.Bool.{true, false, cond, _&&_, _||_, true≢false}
+use mathlib.Core.Bool.{true, false, cond, _&&_, _||_, or-true, true≢false}
 use Prim.Native.Nat.{ℕ, _+_, _-_, _/_, _%_, _≤_, _<_}
 use native.Mathlib.Omega.{arith}
 use lib.Dec.{eqb, leb, ltb}
@@ -10,7 +10,7 @@ use borrow.Author.Tests.{eq-eqb, ne-eqb, lt-ltb, le-ltb, not-false}
 use Rattle.network.specs.Network.{heardAt, pendingAt, blockSize, networkSize, isDistance}
 use Rattle.event.specs.Event.{Event, fire, deliver, lose, link, signal}
 use Rattle.event.specs.Step.{sensorsOf, isDevice}
-use Rattle.decide.proofs.Picks.{both, neither, or-true}
+use Rattle.decide.proofs.Picks.{both, neither}
 use Rattle.event.proofs.Devices.{Device, Pair, device, pair-of}
 use Rattle.clash.specs.Clash.{clash, clashesWith, concerns}
 use Rattle.clash.proofs.Touched.{Fits, Reach, Touched}

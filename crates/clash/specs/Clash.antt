@@ -1,5 +1,5 @@
 -- Which events clash. Definitions only: nothing is assumed.
-use mathlib.Core.Bool.{Bool, true, false, _&&_, _||_}
+use mathlib.Core.Bool.{Bool, false, _&&_, _||_}
 use Prim.Native.Nat.{ℕ}
 use lib.Dec.{eqb}
 use Rattle.event.specs.Event.{Event, fire, deliver, lose, link, signal, Entry, eventOf}

@@ -16,7 +16,7 @@ use Rattle.words.specs.Trees.{treeAt}
 use Rattle.operands.specs.Formed.{width, operand, part, Formed}
 use Rattle.operands.proofs.Views.{View, is-constant, is-parameter, is-variable, is-operator, is-sense, is-rep, is-if, is-mux, is-fold-by, is-call, is-fold, is-nbr, is-range, is-field-if}
 use Rattle.operands.proofs.Views.{is-field-operator, view}
-use Rattle.operands.proofs.Leaves.{Leaf}
+use Rattle.operands.proofs.Alone.{Alone}
 use Rattle.costs.specs.Costs.{cap, capped, bodyCost, Noted, Asks, Gives}
 
 all-cost : {ws : List ℕ} {n w : ℕ} → View ws n w
@@ -110,14 +110,14 @@ module _ {ws notes : List ℕ} (w j sum : ℕ) where
   unfolding cost
   part-none h s m = rw (le-ltb j (width w) h) record { value = omega arith; noted = s }
 
--- a leaf costs 1
-leaf-cost : {ws : List ℕ} {n : ℕ} → Formed ws n → Leaf (word ws n) → cost (treeAt ws n) ≡ 1
+-- a node that names none costs 1
+alone-cost : {ws : List ℕ} {n : ℕ} → Formed ws n → Alone (word ws n) → cost (treeAt ws n) ≡ 1
 unfolding cost bodyCost
-leaf-cost f l = all-cost (view f) ∙ rw (l .narrow, l .folds, l .calls)
+alone-cost f l = all-cost (view f) ∙ rw (l .narrow, l .folds, l .calls)
 
-pub part-leaf : {ws notes : List ℕ} (w j sum : ℕ) {r o : ℕ} → j < width w → o ≡ operand w j → Formed ws o → Leaf (word ws o) → r ≡ capped (sum + 1)
+pub part-alone : {ws notes : List ℕ} (w j sum : ℕ) {r o : ℕ} → j < width w → o ≡ operand w j → Formed ws o → Alone (word ws o) → r ≡ capped (sum + 1)
     → Noted ws notes → Gives ws notes r (sum + cost (part ws w j))
-part-leaf w j sum h eo f l er s = part-some w j sum h eo (record { value = rw (leaf-cost f l) er; noted = s })
+part-alone w j sum h eo f l er s = part-some w j sum h eo (record { value = rw (alone-cost f l) er; noted = s })
 
 -- ---- no note, and one more
 zeros : (n k : ℕ) → getD {A = ℕ} (replicate n 0) k 0 ≡ 0

@@ -13,8 +13,11 @@ ghost use Rattle.words.specs.Trees.{treeAt};
 ghost use Rattle.operands.specs.Formed.{part as partOf, AllFormed};
 ghost use Rattle.costs.specs.Costs.{cap, capped, bodyCost, Asks, Gives};
 
-// One above the most that main may cost.
-const CAP: u32 = 1000001;
+// The most that main may cost.
+pub const LIMIT: u32 = 1000000;
+
+// One above it, where counting ends.
+const CAP: u32 = LIMIT + 1;
 
 fn add(x: u32, y: u32) -> u32
     requires { ⌜ (x ≤ cap) × (y ≤ cap) ⌝ }
@@ -46,8 +49,8 @@ fn noted(ws: &[u64; layout::NODES], notes: &mut [u32; layout::NODES], b: usize) 
     c
 }
 
-// Each of the three adds to a sum. The cost of operand j of node n, 0 where it has none. A leaf is counted where it is
-// named.
+// Each of the three adds to a sum. The cost of operand j of node n, 0 where it has none. A node that names none is
+// counted where it is named.
 fn part(
     ws: &[u64; layout::NODES],
     notes: &mut [u32; layout::NODES],
@@ -61,7 +64,7 @@ fn part(
     let w = ws[n];
     if j < width_of(w) as u32 {
         let m = operand(w, j);
-        if is(ws[m], operands::LEAF) {
+        if is(ws[m], operands::ALONE) {
             return add(sum, 1);
         }
         return cost(ws, notes, m, sum);
@@ -75,12 +78,15 @@ fn body(ws: &[u64; layout::NODES], notes: &mut [u32; layout::NODES], n: usize, s
     ensures { λ r. ⌜ Gives (now (ws .entry)) (now (notes .exit)) r (sum + bodyCost (now (ws .entry)) (word (now (ws .entry)) n)) ⌝ }
 {
     let w = ws[n];
-    let k = form_of(w);
-    if k == unpack::FOLD_BY {
-        return add(sum, fifteen(noted(ws, notes, operand(w, 4))));
+    let form = form_of(w);
+    if form == unpack::FOLD_BY {
+        return add(
+            sum,
+            fifteen(noted(ws, notes, operand(w, operands::BODY_AT))),
+        );
     }
-    if k == unpack::CALL {
-        return add(sum, noted(ws, notes, operand(w, 4)));
+    if form == unpack::CALL {
+        return add(sum, noted(ws, notes, operand(w, operands::BODY_AT)));
     }
     sum
 }

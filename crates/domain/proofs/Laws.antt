@@ -15,12 +15,14 @@ use lib.IntN.{ℤ, pos}
 use lib.ListN.{length, getD}
 use lib.Pow.{pow-add, pow-pos}
 use borrow.Author.Tests.{eq-eqb, ne-eqb, eqb-true}
+use Rattle.decide.proofs.Picks.{both, one-of}
 use Rattle.program.specs.Table.{among}
 use Rattle.bits.specs.Bits.{hasBit}
+use Rattle.bits.proofs.Bits.{parity}
 use Rattle.field.specs.Field.{from}
 use Rattle.domain.specs.Held.{cellOf, fieldOf}
 use Rattle.domain.specs.Members.{before, those, members, places, bit, built}
-use Rattle.domain.proofs.Walk.{parity, by-halves, devs-length}
+use Rattle.domain.proofs.Walk.{by-halves, devs-length}
 
 pub members-none : members 0 ≡ []
 unfolding members those
@@ -34,14 +36,6 @@ size-members dom h = devs-length 16 0 dom h ∙ ap length (sym (by-halves dom))
 
 -- ---- what is a member
 
-either : (s t : Bool) → s || t ≡ true → (s ≡ true) ⊎ (t ≡ true)
-either true t e = inl refl
-either false t e = inr e
-
-second : (s t : Bool) → s && t ≡ true → t ≡ true
-second true t e = e
-second false t e = absurd (false≢true e)
-
 in-before : (t : Bool) (k a : ℕ) (l : List ℕ) → among k (before t a l) ≡ t && eqb k a || among k l
 unfolding among
 in-before true k a l = refl
@@ -51,8 +45,8 @@ in-above : (p : ℕ → Bool) (n a k : ℕ) → among k (those a n p) ≡ true �
 unfolding among those
 in-above p zero a k e = absurd (false≢true e)
 in-above p (suc n) a k e =
-    ⊎-elim (λ q. let s = eqb-true k a (second (p a) (eqb k a) q) in omega arith) (λ q. let s = in-above p n (suc a) k q in omega arith)
-    (either (p a && eqb k a) (among k (those (suc a) n p)) (sym (in-before (p a) k a (those (suc a) n p)) ∙ e))
+    ⊎-elim (λ q. let s = eqb-true k a (both (p a) (eqb k a) q .1) in omega arith) (λ q. let s = in-above p n (suc a) k q in omega arith)
+    (one-of (p a && eqb k a) (among k (those (suc a) n p)) (sym (in-before (p a) k a (those (suc a) n p)) ∙ e))
 
 in-below : (p : ℕ → Bool) (n a k : ℕ) → k < a → among k (those a n p) ≡ false
 unfolding among those

@@ -9,6 +9,7 @@ use lib.Dec.{eqb}
 use lib.Count.{trailingZeros, under, ones, onesIn, ones-step}
 use lib.ListN.{length}
 use lib.Arith.{lt-one}
+use Rattle.bits.proofs.Bits.{parity}
 use Rattle.bits.specs.Bits.{hasBit}
 use Rattle.domain.specs.Members.{before, those, members}
 
@@ -27,14 +28,6 @@ halves (suc k) at d =
 pub by-halves : (d : ℕ) → members d ≡ devs 16 0 d
 unfolding members
 by-halves d = halves 16 0 d ∙ ap (devs 16 0) (div-one d)
-
-pub parity : (b : ℕ) → b < 2 → (b ≡ 0) ⊎ (b ≡ 1)
-parity zero h = inl refl
-parity (suc zero) h = inr refl
-parity (suc (suc b)) h = absurd (no b h)
-  where
-    no : (b : ℕ) → suc (suc b) < 2 → ⊥
-    no b h = omega arith
 
 record Step (k at d t : ℕ) : Type 0 where
   within : t < k

@@ -1,6 +1,6 @@
 -- What `fire` asks of the rows of messages: a sound network has it, and every event keeps it. Assumes nothing.
 use mathlib.Core.Path.{_≡_, refl, sym, ap, _∙_}
-use mathlib.Core.Bool.{Bool, true, false, cond, _&&_, _||_, true≢false}
+use mathlib.Core.Bool.{Bool, true, false, cond, _&&_, or-true, or-false, true≢false}
 use mathlib.Core.List.{List, [], _∷_}
 use Prim.Native.Nat.{ℕ, zero, suc, _+_, _-_, _*_, _/_, _%_, _≤_, _<_}
 use native.Mathlib.Decide.{ℕ-discrete}
@@ -21,7 +21,7 @@ use Rattle.round.proofs.After.{fired-length}
 use Rattle.event.specs.Event.{Event, fire, deliver, lose, link, signal}
 use Rattle.event.specs.Step.{sensorsOf, heardFrom, pendingTo, block, isDevice, outOfRange, refusal, effect, plan, doEvent}
 use Rattle.event.proofs.Devices.{Device, device, pair-of}
-use Rattle.decide.proofs.Picks.{both, or-true}
+use Rattle.decide.proofs.Picks.{both}
 use Rattle.arith.proofs.Signs.{eqZ-yes}
 use Rattle.effects.specs.Does.{IdleRow, Idle}
 use Rattle.effects.proofs.Refusals.{in-range}
@@ -126,10 +126,6 @@ idle-kept main n e l h = go (eqb (refusal n e) 0) refl
     go false q = rw q h
 
 -- ---- a sound network has it
-or-false : (t : Bool) → t || false ≡ t
-or-false true = refl
-or-false false = refl
-
 equal : (x y : ℤ) → eqZ x y ≡ true → x ≡ y
 equal (pos a) (pos b) q = ap pos (eqb-true a b q)
 equal (pos a) (negsuc b) q = absurd (true≢false (sym q))
@@ -142,7 +138,11 @@ slot-mark a l b i z h p k e q =
     let j : ℕ = pendingAt (1 + b) + i in
     let r : (j - pendingAt 1) / 16 + 1 ≡ 1 + b = omega arith in
     let s : (j - pendingAt 1) % 16 ≡ i = omega arith in
-    let t = rw (le-ltb j sensorsAt (omega arith), ne-eqb j sensorsAt (λ v. omega arith), le-ltb j (pendingAt 1) (omega arith), r, s, ne-eqb i 0 (λ v. omega arith), eqZ-yes (getD l (pendingAt (1 + b)) (pos 0)) (pos 0) e, or-true (eqb (1 + b) a)) at q in
+    let none = eqZ-yes (getD l (pendingAt (1 + b)) (pos 0)) (pos 0) e in
+    let above = le-ltb j sensorsAt (omega arith) in
+    let other = ne-eqb j sensorsAt (λ v. omega arith) in
+    let pending = le-ltb j (pendingAt 1) (omega arith) in
+    let t = rw (above, other, pending, r, s, ne-eqb i 0 (λ v. omega arith), none, or-true (eqb (1 + b) a)) at q in
     equal z mark (sym (or-false (eqZ z mark)) ∙ t)
 
 pub idle-sound : (n : List ℤ) → soundness n ≡ (0, 0) → Idle n

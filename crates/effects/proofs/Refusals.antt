@@ -39,7 +39,7 @@ module _ (n : List ℤ) (e : Event) where
   -- the network stays, and the refusal is the answer
   pub turned : (r : Answer) (k : ℕ) → refusal n e ≡ k → (k ≡ 0 → ⊥) → answerOf r ≡ (pos k, pos 0) → Does n e r n
   unfolding plan
-  turned r k p f q = record { network = λ main. rw (p, ne-eqb k 0 f); answer = λ main. rw (p, ne-eqb k 0 f) q }
+  turned r k p f q = λ main. record { network = rw (p, ne-eqb k 0 f); answer = rw (p, ne-eqb k 0 f) q }
 
   -- the same of a refusal that a call gave
   pub turned-by : (r : Answer) (code : ℤ) → SFits w32 code → code ≡ pos (refusal n e) → (ofZ w32 code ≡ 0 → ⊥)
@@ -50,7 +50,7 @@ module _ (n : List ℤ) (e : Event) where
   pub carried-out : (r : Answer) (m : List ℤ) → refusal n e ≡ 0 → ((main : Expr) → m ≡ write n (effect main n e .0))
       → ((main : Expr) → answerOf r ≡ effect main n e .1) → Does n e r m
   unfolding plan
-  carried-out r m p w q = record { network = λ main. rw p (w main); answer = λ main. rw p (q main) }
+  carried-out r m p w q = λ main. record { network = rw p (w main); answer = rw p (q main) }
 
 -- an event that is not refused
 first-false : (o t p : Bool) → firstOf ((o, 14) ∷ (t, 15) ∷ (p, 16) ∷ []) ≡ 0 → o ≡ false

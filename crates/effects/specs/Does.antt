@@ -17,10 +17,14 @@ use Rattle.effects.specs.declared.Answer.{Answer}
 abbrev pub answerOf : Answer → ℤ × ℤ
 answerOf r = (r .code, r .value)
 
--- the event e takes the network n to n′ and is answered r. No event but fire asks for the program, so it is any
-pub record Does (n : List ℤ) (e : Event) (r : Answer) (n′ : List ℤ) : Type 0 where
-  pub network : (main : Expr) → n′ ≡ doEvent main n e .0
-  pub answer : (main : Expr) → answerOf r ≡ doEvent main n e .1
+-- the event e takes the network n to n′ and is answered r, in the program main
+pub record Acts (main : Expr) (n : List ℤ) (e : Event) (r : Answer) (n′ : List ℤ) : Type 0 where
+  pub network : n′ ≡ doEvent main n e .0
+  pub answer : answerOf r ≡ doEvent main n e .1
+
+-- the same in any program: no event but fire asks for it
+abbrev pub Does : List ℤ → Event → Answer → List ℤ → Type 0
+Does n e r n′ = (main : Expr) → Acts main n e r n′
 
 -- what `signal` asks, of every device: no sensors' cell is negative. A sound network has it, and every event keeps it (proofs/Lit.antt)
 abbrev pub Lit : List ℤ → Type 0

@@ -68,7 +68,7 @@ pub record Fits (x : Node) : Type 0 where
   pub item : itemBy (x .kind) (x .item) < 16
 
 -- a node without children: its kind has none, or its definition has no parameters
-pub record Leaf (x : Node) : Type 0 where
+pub record Childless (x : Node) : Type 0 where
   pub fits : Fits x
   pub none : x .kids ≡ 0
   pub count : ℕ

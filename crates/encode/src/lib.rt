@@ -4,7 +4,7 @@ ghost use mathlib.Core.Bool.{Bool, cond};
 ghost use Prim.Native.Nat.{_<_};
 ghost use Rattle.program.specs.Table.{kindCount};
 ghost use Rattle.shapes.specs.Kinds.{operatorKind};
-ghost use Rattle.encode.specs.Parts.{formBy, itemBy, kid, IsConstant, IsParts, IsWord, Fits, Leaf};
+ghost use Rattle.encode.specs.Parts.{formBy, itemBy, kid, IsConstant, IsParts, IsWord, Fits, Childless};
 
 fn pick(b: bool, x: u8, y: u8) -> u8
     ensures { λ r. ⌜ r ≡ cond b x y ⌝ }
@@ -99,8 +99,8 @@ pub fn word_of(x: nodes::Node, body: u8, side: bool, branch: bool) -> u64
 }
 
 // The word of a node without children: a constant, parameter, variable or nbr-range, or a call without arguments.
-pub fn leaf_word(x: nodes::Node, body: u8) -> u64
-    requires { ⌜ Leaf x ⌝ }
+pub fn childless_word(x: nodes::Node, body: u8) -> u64
+    requires { ⌜ Childless x ⌝ }
     ensures { λ r. ⌜ ((side branch : Bool) → IsWord x body side branch r) ⌝ }
 {
     if x.kind == shapes::CONSTANT {
@@ -119,8 +119,8 @@ pub fn operator_word(x: nodes::Node, body: u8, side: bool) -> u64
     requires { ⌜ (x .kind ≡ operatorKind) × (x .kids ≡ 2) × (x .item < 16) ⌝ }
     ensures { λ r. ⌜ ((branch : Bool) → IsWord x body side branch r) ⌝ }
 {
-    let w = (body as u64) + 2048;
-    let w = (x.b as u64) + 1073741824 * w;
+    let w = (body as u64) + 2048; // two children, from bit 10
+    let w = (x.b as u64) + 1073741824 * w; // the third and fourth are 0
     let w = (x.a as u64) + 1024 * w;
     let w = (x.item as u64) + 16 * w;
     (pick(side, unpack::FIELD_OPERATOR, unpack::OPERATOR) as u64) + 32 * w

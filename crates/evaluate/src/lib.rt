@@ -1,4 +1,4 @@
-// The evaluator of one round. Its functions call each other, so what they pass on is a whole number or a reference to an array: both stay in registers.
+// The evaluator of one round. Its functions call each other, so what they take is whole numbers and references to arrays, mostly in registers; a field is returned by value.
 //
 // `t`: a word a node. `u`: the variables of the reps under each node. `here`: what the round reads, the device's cells up to its messages. `st`: the state (crate apply).
 // `env`: the parameters. `n`: the node.
@@ -25,9 +25,8 @@ use unpack::SENSE;
 ghost use mathlib.Core.Path.{_≡_};
 ghost use Prim.Native.Nat.{_%_, _<_, _≤_};
 ghost use lib.IntN.{pos};
-ghost use Rattle.field.specs.Field.{Field};
 ghost use Rattle.domain.specs.Held.{fieldOf};
-ghost use Rattle.round.specs.Round.{State, field, done, arguments, folded, rangeIn, sending, eval};
+ghost use Rattle.round.specs.Round.{field, done, arguments, folded, rangeIn, sending, eval};
 ghost use Rattle.words.specs.Form.{operatorForm, senseForm, repForm, ifForm, muxForm, callForm, nbrForm, fieldIfForm, leafForms};
 ghost use Rattle.words.specs.Word.{form, count, word};
 ghost use Rattle.apply.specs.State.{stateOf, faultOf, Gives, GivesField, GivesSide};
@@ -342,8 +341,7 @@ fn rep_at(
     if st[FAULT] != 0 {
         return 0;
     }
-    let kept = y;
-    st[v] = kept;
+    st[v] = y;
     y
 }
 

@@ -22,9 +22,9 @@ use Rattle.event.specs.Step.{pendingTo, outOfRange, block, effect, plan}
 use Rattle.apply.specs.State.{stateSize, stateOf, faultOf, Gives}
 use Rattle.arith.proofs.Signs.{eqZ-yes, eqZ-no}
 use Rattle.effects.specs.declared.Answer.{Answer}
-use Rattle.effects.specs.Does.{answerOf, IdleRow, Idle}
+use Rattle.effects.specs.Does.{answerOf, Acts, IdleRow, Idle}
 use Rattle.effects.proofs.Refusals.{is-14, is-0, turned}
-use Rattle.fire.specs.Fires.{ownSize, atFirst, IdleRows, Puts, Fires}
+use Rattle.fire.specs.Fires.{ownSize, atFirst, IdleRows, Puts}
 use Rattle.domain.proofs.Laws.{from-same}
 use Rattle.effects.proofs.Rows.{row-length, store-row, joined-length}
 use Rattle.effects.proofs.Idle.{message-length, idle-out}
@@ -32,16 +32,16 @@ use Rattle.fire.proofs.Rows.{two-in}
 
 -- ---- the message to a device
 module _ (here : List ℤ) (s : State) (b : ℕ) where
-  place : heardAt (1 + b) + 0 ≡ 17 + 16 * b
+  place : heardAt (1 + b) + 0 ≡ heardAt 1 + 16 * b
   place = omega arith
 
-  pub unlinked : getD here (17 + 16 * b) (pos 0) ≡ mark → message here s (1 + b) ≡ noMessage
+  pub unlinked : getD here (heardAt 1 + 16 * b) (pos 0) ≡ mark → message here s (1 + b) ≡ noMessage
   unfolding message
-  unlinked e = rw (place, eqZ-yes (getD here (17 + 16 * b) (pos 0)) mark e)
+  unlinked e = rw (place, eqZ-yes (getD here (heardAt 1 + 16 * b) (pos 0)) mark e)
 
-  pub linked : (getD here (17 + 16 * b) (pos 0) ≡ mark → ⊥) → message here s (1 + b) ≡ pos 1 ∷ drop 1 (s .sent)
+  pub linked : (getD here (heardAt 1 + 16 * b) (pos 0) ≡ mark → ⊥) → message here s (1 + b) ≡ pos 1 ∷ drop 1 (s .sent)
   unfolding message
-  linked e = rw (place, eqZ-no (getD here (17 + 16 * b) (pos 0)) mark e)
+  linked e = rw (place, eqZ-no (getD here (heardAt 1 + 16 * b) (pos 0)) mark e)
 
 -- ---- what is asked of the rows of messages
 -- of one behind what was stored
@@ -96,8 +96,8 @@ module _ (z : ℤ) (k : ℕ) (f : SFits w32 z) (e : z ≡ pos (k + 1)) where
 
 -- ---- a fire of a
 module _ (main : Expr) (n : List ℤ) (a : ℕ) where
-  pub refused : (r : Answer) → outOfRange (fire a) ≡ true → answerOf r ≡ (pos 14, pos 0) → Fires main n a r n
-  refused r o q = let d = turned n (fire a) r 14 (is-14 n (fire a) o) (λ z. omega arith) q in record { network = d .network main; answer = d .answer main }
+  pub refused : (r : Answer) → outOfRange (fire a) ≡ true → answerOf r ≡ (pos 14, pos 0) → Acts main n (fire a) r n
+  refused r o q = turned n (fire a) r 14 (is-14 n (fire a) o) (λ z. omega arith) q main
 
   planned : outOfRange (fire a) ≡ false → plan main n (fire a) ≡ effect main n (fire a)
   unfolding plan
@@ -123,7 +123,7 @@ module _ (main : Expr) (n : List ℤ) (a : ℕ) where
     gives : Gives (round main (block n a)) r st
     gives = let q = rw e at g in let p = rw own at q in rw round-is p
 
-    pub fires : (m : List ℤ) → faultOf st ≡ pos 0 → base a + blockSize ≤ length n → length st ≡ stateSize → Puts n (base a) here st m → answerOf x ≡ (pos 0, r) → Fires main n a x m
+    pub fires : (m : List ℤ) → faultOf st ≡ pos 0 → base a + blockSize ≤ length n → length st ≡ stateSize → Puts n (base a) here st m → answerOf x ≡ (pos 0, r) → Acts main n (fire a) x m
     unfolding fired
     fires m z h k p q =
         let w = went (round main (block n a)) r st (block n a) gives z in
@@ -132,7 +132,7 @@ module _ (main : Expr) (n : List ℤ) (a : ℕ) where
           answer = rw (planned go, w) q;
         }
 
-    pub fails : (faultOf st ≡ pos 0 → ⊥) → ((k : ℕ) → faultOf st ≡ pos (k + 1) → answerOf x ≡ (pos 17, pos k)) → Fires main n a x n
+    pub fails : (faultOf st ≡ pos 0 → ⊥) → ((k : ℕ) → faultOf st ≡ pos (k + 1) → answerOf x ≡ (pos 17, pos k)) → Acts main n (fire a) x n
     unfolding fired
     fails z q =
         let w = stopped (round main (block n a)) r st (block n a) gives z in

@@ -7,18 +7,14 @@ use lib.IntN.{ℤ, pos}
 use Rattle.number.specs.Number.{mark}
 use Rattle.field.specs.Field.{devices, each}
 use Rattle.program.specs.Table.{nodeLimit}
-use Rattle.program.specs.Tree.{Expr}
 use Rattle.network.specs.Cells.{row, store}
 use Rattle.network.specs.Network.{networkSize, pendingAt}
 use Rattle.round.specs.Round.{State, message, joined}
-use Rattle.event.specs.Event.{fire}
-use Rattle.event.specs.Step.{doEvent}
 use Rattle.words.specs.Form.{numberForms}
 use Rattle.words.specs.Word.{form, word}
 use Rattle.words.specs.Sound.{Sound}
 use Rattle.apply.specs.State.{stateOf, faultOf}
-use Rattle.effects.specs.declared.Answer.{Answer}
-use Rattle.effects.specs.Does.{answerOf, IdleRow, Idle}
+use Rattle.effects.specs.Does.{IdleRow, Idle}
 
 -- a device's own cells, those up to its messages
 abbrev pub ownSize : ℕ
@@ -41,14 +37,9 @@ pub record Puts (n : List ℤ) (at : ℕ) (here st n′ : List ℤ) : Type 0 whe
   pub network : n′ ≡ store (store n at (stateOf st .variables)) (at + pendingAt 1) (joined (each (message here (stateOf st))))
 
 -- a whole network in whose rows of messages a mark of 0 says nothing pending, and a sound table whose node main gives a number
-pub record Ready (ws us : List ℕ) (main : ℕ) (n : List ℤ) : Type 0 where
+pub record MayFire (ws us : List ℕ) (main : ℕ) (n : List ℤ) : Type 0 where
   pub whole : length n ≡ networkSize
   pub idle : Idle n
   pub sound : Sound ws us
   pub inside : main < nodeLimit
   pub sort : form (word ws main) < numberForms
-
--- a fire of a takes the network n to n′ and is answered r, in the program main
-pub record Fires (main : Expr) (n : List ℤ) (a : ℕ) (r : Answer) (n′ : List ℤ) : Type 0 where
-  pub network : n′ ≡ doEvent main n (fire a) .0
-  pub answer : answerOf r ≡ doEvent main n (fire a) .1

@@ -8,10 +8,11 @@ ghost use Rattle.field.specs.Field.{devices, each};
 ghost use Rattle.network.specs.Cells.{row, store};
 ghost use Rattle.network.specs.Network.{blockSize, pendingAt};
 ghost use Rattle.round.specs.Round.{message, joined};
+ghost use Rattle.event.specs.Event.{fire};
 ghost use Rattle.apply.specs.State.{stateSize, stateOf};
 ghost use Rattle.words.specs.Trees.{treeAt};
-ghost use Rattle.effects.specs.Does.{IdleRow};
-ghost use Rattle.fire.specs.Fires.{ownSize, Begun, IdleRows, Puts, Ready, Fires};
+ghost use Rattle.effects.specs.Does.{Acts, IdleRow};
+ghost use Rattle.fire.specs.Fires.{ownSize, Begun, IdleRows, Puts, MayFire};
 
 // The device's own cells, from `at` on.
 fn own_cells(net: &[i32], at: usize) -> [i32; layout::OWN]
@@ -82,8 +83,8 @@ pub fn fire(
     a: u8,
     st: &mut [i32; layout::STATE],
 ) -> effects::Answer
-    requires { ⌜ Ready (now t) (now u) main (now net) ⌝ }
-    ensures { λ r. ⌜ Fires (treeAt (now (t .entry)) main) (now (net .entry)) a r (now (net .exit)) ⌝ }
+    requires { ⌜ MayFire (now t) (now u) main (now net) ⌝ }
+    ensures { λ r. ⌜ Acts (treeAt (now (t .entry)) main) (now (net .entry)) (fire a) r (now (net .exit)) ⌝ }
 {
     if effects::fire_refused(a) {
         return effects::Answer { code: 14, value: 0 };

@@ -1,4 +1,4 @@
--- The refusals of a field that is a node, near the code. Internal: `proofs/Rows.antt` of rows proves that they are those of program's rows.
+-- The refusals of a field that is a node, near the code. Internal: `proofs/RefusalRows.antt` of refusal_rows proves that they are those of program's rows.
 use mathlib.Core.Bool.{Bool, false, cond, _&&_, _||_}
 use mathlib.Core.List.{List}
 use Prim.Native.Nat.{ℕ, _+_}

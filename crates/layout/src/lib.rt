@@ -19,7 +19,10 @@ pub const HEARD: usize = 17;
 
 pub const PENDING: usize = HEARD + DEVICES * ROW;
 
-pub const BLOCK: usize = PENDING + DEVICES * ROW;
+// The rows of a device, heard and pending.
+pub const ROWS: usize = 2 * DEVICES;
+
+pub const BLOCK: usize = HEARD + ROWS * ROW;
 
 // What a round reads of them: those up to the messages.
 pub const OWN: usize = PENDING;

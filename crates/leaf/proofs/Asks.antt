@@ -1,5 +1,5 @@
 -- What the calls of the evaluator ask: that the measure falls, and that the node is of the sort that is wanted. Assumes nothing.
-use mathlib.Core.Path.{_≡_, refl, sym, _∙_}
+use mathlib.Core.Path.{_≡_, refl, _∙_}
 use mathlib.Core.Bool.{Bool, true, false}
 use mathlib.Core.List.{List}
 use mathlib.Core.Logic.{_⊎_, inl, inr, ⊎-elim}
@@ -15,7 +15,7 @@ use Rattle.words.specs.Form.{operatorForm, senseForm, repForm, ifForm, callForm
 use Rattle.words.specs.Form.{fieldOperatorForm, leafForms, numberForms, fieldForms, forms}
 use Rattle.words.specs.Word.{form, p1, p2, count, word}
 use Rattle.words.specs.Trees.{treeAt}
-use Rattle.words.specs.Sound.{Num, Fld, Arg, Sorted, Right, Sound}
+use Rattle.words.specs.Sound.{Num, Fld, Arg, Sorted, Sound}
 use Rattle.apply.specs.State.{faultOf, Mask}
 use Rattle.leaf.specs.Asked.{Number, IsField, Argument, Inside, IsLeaf, IsPair, Folding}
 use Rattle.leaf.proofs.Evaluates.{right}

@@ -57,6 +57,10 @@ pub opened : (s : List ℕ) (at fuel : ℕ) → length s - at < fuel → Opened 
 opened s at zero h = absurd (omega arith)
 opened s at (suc k) h = record { more = k; enough = omega arith; same = found s at k }
 
+-- the body of a whole field is as long as the field says
+size : (s : List ℕ) (at : ℕ) {tag start len next : ℕ} → fieldAt s at ≡ Whole tag start len next → length (take len (drop start s)) ≡ len
+size s at {start = start} {len = len} e = let p = placed s at e in length-body s start len (omega arith)
+
 module _ (s : List ℕ) (at n : ℕ) (g : Going s at n) where
   turn : Opened s at (g .fuel)
   turn = opened s at (g .fuel) (g .enough)
@@ -73,12 +77,9 @@ module _ (s : List ℕ) (at n : ℕ) (g : Going s at n) where
   cut-turn e = sym (turned ∙ rw e)
 
   module _ (tag start len next : ℕ) (e : fieldAt s at ≡ Whole tag start len next) where
-    size : length (take len (drop start s)) ≡ len
-    size = let p = placed s at e in length-body s start len (omega arith)
-
     pub bad-turn : known tag len ≡ false → refusedFrom n ≡ countOf (readList s)
     unfolding readFrom
-    bad-turn k = sym (turned ∙ rw (e, refused-here tag len (take len (drop start s)) size n _ k))
+    bad-turn k = sym (turned ∙ rw (e, refused-here tag len (take len (drop start s)) (size s at e) n _ k))
 
     pub next-turn : known tag len ≡ true → Going s next (n + 1)
     unfolding readFrom
@@ -90,7 +91,7 @@ module _ (s : List ℕ) (at n : ℕ) (g : Going s at n) where
           fuel = r .more;
           enough = omega (arith, r .enough);
           passed = omega arith;
-          same = rw (add-one n) (turned ∙ rw (e, read-on tag len (take len (drop start s)) size n _ k)
+          same = rw (add-one n) (turned ∙ rw (e, read-on tag len (take len (drop start s)) (size s at e) n _ k)
               (count-more n (record { tag = tag; body = take len (drop start s) }) (readFrom (suc n) (fieldsIn (r .more) (drop next s)))));
         }
 
@@ -113,12 +114,9 @@ module _ (s : List ℕ) where
   one-none f q (inr e) = rw (first, ← q, e)
 
   module _ (tag start len next : ℕ) (e : fieldAt s 0 ≡ Whole tag start len next) where
-    one-size : length (take len (drop start s)) ≡ len
-    one-size = let p = placed s 0 e in length-body s start len (omega arith)
-
     pub one-bad : known tag len ≡ false → refusedFrom 0 ≡ countOf (readOne (fieldsOf s))
     unfolding readOne
-    one-bad k = rw (first, e, refused-here tag len (take len (drop start s)) one-size 0 _ k)
+    one-bad k = rw (first, e, refused-here tag len (take len (drop start s)) (size s 0 e) 0 _ k)
 
     -- what follows the field
     rest : (k : ℕ) × (fieldsIn (length s) (drop next s) ≡ fieldsFrom s k (fieldAt s next))
@@ -130,7 +128,7 @@ module _ (s : List ℕ) where
 
     one-more : known tag len ≡ true → readOne (fieldsOf s) ≡ alone (record { tag = tag; body = take len (drop start s) }) (fieldsFrom s (rest .0) (fieldAt s next))
     unfolding readOne
-    one-more k = rw (first, e, read-on tag len (take len (drop start s)) one-size 0 _ k, rest .1)
+    one-more k = rw (first, e, read-on tag len (take len (drop start s)) (size s 0 e) 0 _ k, rest .1)
 
     pub one-long : known tag len ≡ true → next < length s → refusedFrom 1 ≡ countOf (readOne (fieldsOf s))
     one-long k h = sym (ap countOf (one-more k) ∙ go (fieldAt s next) refl)

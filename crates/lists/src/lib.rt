@@ -1,7 +1,7 @@
 // Lists of events as bytes: how many there are, or where the list is refused, and the event of a field. Each exactly as the crate event defines it.
 ghost use mathlib.Core.Path.{_≡_};
 ghost use Prim.Native.Nat.{_+_, _≤_};
-ghost use lib.ListN.{length, take, drop};
+ghost use lib.ListN.{take, drop};
 ghost use Rattle.wire.specs.Wire.{fieldsOf};
 ghost use Rattle.program.specs.Tree.{signed};
 ghost use Rattle.event.specs.Event.{readAs, readList, readOne};

@@ -13,7 +13,7 @@ use Rattle.shapes.specs.Kinds.{callKind}
 use Rattle.program.specs.Table as program
 use Rattle.program.specs.Table.{Item, child, slot, keeps, among, beyond, numbers, allNumbers, bodies, valuesIn, definitionAt, withNode, withDefinition, nodeLimit}
 use Rattle.program.proofs.Items.{same-items}
-use Rattle.program.proofs.Tests.{either, second}
+use Rattle.decide.proofs.Picks.{neither, and-second}
 use Rattle.nodes.specs.declared.Node.{Node}
 use Rattle.taken.specs.Agrees.{Agree}
 use Rattle.shapes.specs.Shapes.{leadOf, widthOf, kidsOf, byteValues, keptItem, slotItem, definitionItem}
@@ -85,8 +85,8 @@ empty-shown = refl
 below-at : (n : ℕ) (ks : List ℕ) (j : ℕ) → beyond n ks ≡ false → j < length ks → getD ks j 0 < n
 unfolding beyond
 below-at n [] j e h = absurd (omega arith)
-below-at n (k ∷ ks) zero e h = leb-false n k (either (leb n k) _ e .0)
-below-at n (k ∷ ks) (suc j) e h = below-at n ks j (either (leb n k) _ e .1) (omega arith)
+below-at n (k ∷ ks) zero e h = leb-false n k (neither (leb n k) _ e .0)
+below-at n (k ∷ ks) (suc j) e h = below-at n ks j (neither (leb n k) _ e .1) (omega arith)
 
 first-four : (ks : List ℕ) (j : ℕ) → j < 4 → getD (getD ks 0 0 ∷ getD ks 1 0 ∷ getD ks 2 0 ∷ getD ks 3 0 ∷ []) j 0 ≡ getD ks j 0
 first-four ks zero h = refl
@@ -183,7 +183,7 @@ module _ (t : Table) (m : Taken) (st : State t m) (kind : ℕ) (s : List ℕ) (c
         range = range;
         children = λ j h. rw (first-four ks j (let f = few in omega arith))
             (below-at (t .n) ks j (cl .given) (let r = cl .right in omega (arith, length-drop (widthOf kind) s)));
-        definition = λ q. let d : itemOf l s < t .defs = leb-false (t .defs) (itemOf l s) (second (eqb l definitionItem) _ (cl .definition) (eq-eqb l definitionItem q)) in
+        definition = λ q. let d : itemOf l s < t .defs = leb-false (t .defs) (itemOf l s) (and-second (eqb l definitionItem) _ (cl .definition) (eq-eqb l definitionItem q)) in
             (d, st .good .bodies (itemOf l s) d);
       }
 

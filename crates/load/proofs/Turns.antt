@@ -12,7 +12,7 @@ use borrow.Author.Tests.{eqb-true, eqb-false, eq-eqb, ne-eqb}
 use Rattle.wire.specs.Wire as wire
 use Rattle.wire.specs.Wire.{Fields, cut, fieldsIn, fieldsOf}
 use Rattle.program.specs.Table as program
-use Rattle.program.specs.Table.{Rows, firstOf, Entry, aNode, aDefinition, aMain, unknown, entryOf, onEntry, unless, refused, Loaded, loadFrom, definitionRows, nodeRows}
+use Rattle.program.specs.Table.{RefusalRows, firstOf, TableEntry, aNode, aDefinition, aMain, unknown, entryOf, onEntry, unless, refused, Loaded, loadFrom, definitionRows, nodeRows}
 use Rattle.program.specs.Table.{mainRows, ended, isEnd, unnamed, nodeLimit, definitionLimit}
 use Rattle.wire_reader.specs.declared.Field.{Field}
 use Rattle.wire_reader.specs.declared.Field.the-variants.{Whole, Cut, End}
@@ -31,20 +31,20 @@ use Rattle.refusal_rows.specs.Numbers.{fieldNumber, definitionNumber, mainNumbe
 use Rattle.refusal_rows.specs.Roots.{TakesRoot}
 use Rattle.refusal_rows.specs.Shows.{Shows}
 use Rattle.refusal_rows.proofs.Clear.{definition-clear, main-clear}
-use Rattle.refusal_rows.proofs.Rows.{entryNumber, entry-is, field-rows, definition-rows, node-rows, main-rows}
+use Rattle.refusal_rows.proofs.RefusalRows.{entryNumber, entry-is, field-rows, definition-rows, node-rows, main-rows}
 use Rattle.load.specs.declared.Table.{Table}
 use Rattle.load.specs.Loads.{tableOf, Good, Loads}
 use Rattle.load.specs.Steps.{tableIn, emptyTable, noneTaken, refusal, numberIn, put, addNode, define, endNumber, withMain}
 use Rattle.load.proofs.State.{State, shows-of, beginning, empty-shown, put-shown, put-state, define-shown, define-state}
 
 -- rows of which none holds, and rows of which one does
-none-holds : (rows : Rows) (place : ℕ) (next : Loaded) → firstOf rows ≡ 0 → unless rows place next ≡ next
+none-holds : (rows : RefusalRows) (place : ℕ) (next : Loaded) → firstOf rows ≡ 0 → unless rows place next ≡ next
 none-holds rows place next e = rw (eq-eqb (firstOf rows) 0 e)
 
-one-holds : (rows : Rows) (place e : ℕ) (next : Loaded) → e ≡ firstOf rows → (e ≡ 0 → ⊥) → unless rows place next ≡ refused e place
+one-holds : (rows : RefusalRows) (place e : ℕ) (next : Loaded) → e ≡ firstOf rows → (e ≡ 0 → ⊥) → unless rows place next ≡ refused e place
 one-holds rows place e next q h = rw (← q, ne-eqb e 0 h)
 
-stopped : (t : program.Table) (en : Entry) (place e : ℕ) (rest : Fields) (go : program.Table → Loaded) → e ≡ entryNumber t en → (e ≡ 0 → ⊥)
+stopped : (t : program.Table) (en : TableEntry) (place e : ℕ) (rest : Fields) (go : program.Table → Loaded) → e ≡ entryNumber t en → (e ≡ 0 → ⊥)
     → onEntry place t en rest go ≡ refused e place
 stopped t (aNode kind s) place e rest go q h = one-holds (nodeRows t kind s) place e _ q h
 stopped t (aDefinition s) place e rest go q h = one-holds (definitionRows t s) place e _ q h
@@ -52,7 +52,7 @@ stopped t (aMain s) place e rest go q h = one-holds (mainRows t s) place e _ q h
 stopped t unknown place e rest go q h = ap (λ (n : ℕ). refused n place) (sym q)
 
 -- a field that is not refused: one node or definition more
-record Grown (t : Table) (en : Entry) (u : Table) (m : Taken) : Type 0 where
+record Grown (t : Table) (en : TableEntry) (u : Table) (m : Taken) : Type 0 where
   pub shown : (place : ℕ) (rest : Fields) (go : program.Table → Loaded) → onEntry place (tableOf t) en rest go ≡ go (tableOf u)
   pub more : u .n + u .defs ≡ suc (t .n + t .defs)
   pub state : State u m
@@ -106,7 +106,7 @@ module _ (t : Table) (m : Taken) (st : State t m) (tag : ℕ) (b : List ℕ) (e 
       let cl = node-clear (getD b 0 0) (drop 1 b) (t .n) (t .defs) _ m (k .1) in
       let z = sym (node-rows (t .n) (t .defs) (t .counts) m (tableOf t) shows (getD b 0 0) (drop 1 b)) ∙ k .1 in
       record {
-        shown = λ place rest go. ap (λ (en : Entry). onEntry place (tableOf t) en rest go) (node-entry t m tag b q (k .0))
+        shown = λ place rest go. ap (λ (en : TableEntry). onEntry place (tableOf t) en rest go) (node-entry t m tag b q (k .0))
             ∙ none-holds (nodeRows (tableOf t) (getD b 0 0) (drop 1 b)) place _ z
             ∙ ap go (sym (put-shown t m st (getD b 0 0) (drop 1 b) cl));
         more = omega arith;
@@ -120,7 +120,7 @@ module _ (t : Table) (m : Taken) (st : State t m) (tag : ℕ) (b : List ℕ) (e 
       let cl = definition-clear b (t .n) (t .defs) (m .named) (k .1) in
       let z = sym (definition-rows (t .n) (t .defs) (t .counts) m (tableOf t) shows b) ∙ k .1 in
       record {
-        shown = λ place rest go. ap (λ (en : Entry). onEntry place (tableOf t) en rest go) (definition-entry t m tag b (k .0))
+        shown = λ place rest go. ap (λ (en : TableEntry). onEntry place (tableOf t) en rest go) (definition-entry t m tag b (k .0))
             ∙ none-holds (definitionRows (tableOf t) b) place _ z
             ∙ ap go (sym (define-shown t m st b cl));
         more = omega arith;
@@ -130,7 +130,7 @@ module _ (t : Table) (m : Taken) (st : State t m) (tag : ℕ) (b : List ℕ) (e 
   main-taken : tag ≡ 3 → (place : ℕ) (rest : Fields) (go : program.Table → Loaded)
       → onEntry place (tableOf t) (entryOf tag b) rest go ≡ ended (tableOf t) (getD b 0 0) rest
   main-taken q place rest go =
-      ap (λ (en : Entry). onEntry place (tableOf t) en rest go) (main-entry t m tag b q)
+      ap (λ (en : TableEntry). onEntry place (tableOf t) en rest go) (main-entry t m tag b q)
       ∙ none-holds (mainRows (tableOf t) b) place _ (sym (main-rows (t .n) (t .defs) (t .counts) m (tableOf t) shows b) ∙ main-number t m tag b e q)
 
 -- no byte is left

@@ -1,4 +1,4 @@
-pub mod Leaves
+pub mod Alone
 pub mod Digits
 pub mod Views
 pub mod Below

@@ -10,7 +10,7 @@ use Rattle.program.specs.Table.{nodeLimit}
 use Rattle.program.specs.Tree.{Expr, nothing}
 use Rattle.bits.specs.Bits.{hasBit, bitsOf}
 use Rattle.words.specs.Form.{constantForm, parameterForm, variableForm, repForm, foldByForm, callForm, nbrForm, rangeForm, fieldForms, forms}
-use Rattle.words.specs.Word.{form, count, word}
+use Rattle.words.specs.Word.{nodeNumbers, form, count, word}
 use Rattle.words.specs.Trees.{treeAt}
 
 -- the forms that give a number in a table as it is checked: the quick ones are made later
@@ -20,7 +20,9 @@ checkedForms = 11
 -- how many operands a form has, but for a call, which has as many as its count says
 abbrev pub widths : List ℕ
 widths =
+    -- constant, parameter, variable, operator, sense, rep, if, mux, fold by definition, call, fold by operator
     0 ∷ 0 ∷ 0 ∷ 2 ∷ 1 ∷ 2 ∷ 3 ∷ 3 ∷ 2 ∷ 0 ∷ 2 ∷ 0 ∷ 0 ∷ 0 ∷ 0 ∷ 0
+    -- nbr, nbr-range, if and operator on fields
     ∷ 1 ∷ 0 ∷ 3 ∷ 2 ∷ 0 ∷ 0 ∷ 0 ∷ 0 ∷ 0 ∷ 0 ∷ 0 ∷ 0 ∷ 0 ∷ 0 ∷ 0 ∷ 0
     ∷ []
 
@@ -32,14 +34,18 @@ packed (k ∷ ks) = k + 4 * packed ks
 unfoldable pub width : ℕ → ℕ
 width w = cond (eqb (form w) callForm) (count w) (getD widths (form w) 0)
 
--- operand j, the first is 0; 4 is the body
+-- the body, as an operand
+abbrev pub bodyAt : ℕ
+bodyAt = 4
+
+-- operand j, the first is 0
 abbrev pub operand : ℕ → ℕ → ℕ
-operand w j = w / 2 ^ (9 + 10 * j) % 1024
+operand w j = w / 2 ^ (9 + 10 * j) % nodeNumbers
 
 -- the forms of which a word says more than what it names, a list each: those that name no node; that have a body; that bind a variable, their item, in operand 1; that
 -- read a variable, their item; that are spatial of themselves
-abbrev pub leafSet : ℕ
-leafSet = bitsOf (constantForm ∷ parameterForm ∷ variableForm ∷ rangeForm ∷ [])
+abbrev pub aloneSet : ℕ
+aloneSet = bitsOf (constantForm ∷ parameterForm ∷ variableForm ∷ rangeForm ∷ [])
 
 abbrev pub bodySet : ℕ
 bodySet = bitsOf (foldByForm ∷ callForm ∷ [])
@@ -53,8 +59,8 @@ readSet = bitsOf (variableForm ∷ [])
 abbrev pub spatialSet : ℕ
 spatialSet = bitsOf (repForm ∷ nbrForm ∷ rangeForm ∷ [])
 
-abbrev pub isLeaf : ℕ → Bool
-isLeaf w = hasBit (form w) leafSet
+abbrev pub isAlone : ℕ → Bool
+isAlone w = hasBit (form w) aloneSet
 
 abbrev pub hasBody : ℕ → Bool
 hasBody w = hasBit (form w) bodySet

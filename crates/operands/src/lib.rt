@@ -20,7 +20,7 @@ const WIDTHS: u64 = (2 << (2 * unpack::OPERATOR))
     | (2 << (2 * unpack::FIELD_OPERATOR));
 
 // Sets of forms, a bit each: those that name no node,
-pub const LEAF: u32 = (1 << unpack::CONSTANT)
+pub const ALONE: u32 = (1 << unpack::CONSTANT)
     | (1 << unpack::PARAMETER)
     | (1 << unpack::VARIABLE)
     | (1 << unpack::RANGE);
@@ -54,7 +54,10 @@ pub fn width_of(w: u64) -> u8
     ((WIDTHS >> (2 * (form as u32))) % 4) as u8
 }
 
-// Operand j, from 0; 4 is the body.
+// The body, as an operand.
+pub const BODY_AT: u32 = 4;
+
+// Operand j, from 0; BODY_AT is the body.
 pub fn operand(w: u64, j: u32) -> usize
     requires { ⌜ j < 5 ⌝ }
     ensures { λ r. ⌜ r ≡ operandAt w j ⌝ }

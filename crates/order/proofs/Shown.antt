@@ -1,5 +1,5 @@
 -- Copies, places, orders and runs at examples, by computation. Assumes nothing. An event is a number here.
-use mathlib.Core.Path.{_≡_, refl, sym, ap}
+use mathlib.Core.Path.{_≡_, refl, sym}
 use mathlib.Core.Logic.{ite}
 use mathlib.Core.HLevel.{Discrete}
 use mathlib.Core.Bool.{Bool, true, false, _&&_, true≢false}

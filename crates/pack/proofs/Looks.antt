@@ -11,8 +11,8 @@ use borrow.Author.Tests.{eqb-true, eq-eqb, ltb-true, ltb-false}
 use Rattle.operands.specs.Found.{found}
 use Rattle.program.specs.Table.{among, nodeLimit}
 use Rattle.program.specs.Check.{lowest, offending}
-use Rattle.program.proofs.Tests.{neither, notBoth}
-use Rattle.sorts.specs.Sorts.{fieldAt, firstBad, lowerField, lowestField}
+use Rattle.decide.proofs.Picks.{or-fails, and-fails}
+use Rattle.sorts.specs.Sorts.{isFieldAt, firstBad, lowerField, lowestField}
 use Rattle.operands.proofs.Found.{none-offends, one-offends}
 
 -- r is the lowest of the nodes below i that offend, or that of no node
@@ -68,18 +68,18 @@ joined false true true false = refl
 joined false true false false = refl
 joined false false a f = refl
 
-module _ (ws : List ℕ) (n : ℕ) (few : n ≤ nodeLimit) (there : (k : ℕ) → fieldAt ws k ≡ true → k < n) where
-  lower : {p : ℕ → Bool} {r : ℕ} (b : ℕ) → Looked p r n → Looked (λ k. p k || eqb k b && fieldAt ws k) (lowerField ws b r) n
-  lower {p} {r} b l = go (fieldAt ws b) refl (ltb b r) refl
+module _ (ws : List ℕ) (n : ℕ) (few : n ≤ nodeLimit) (there : (k : ℕ) → isFieldAt ws k ≡ true → k < n) where
+  lower : {p : ℕ → Bool} {r : ℕ} (b : ℕ) → Looked p r n → Looked (λ k. p k || eqb k b && isFieldAt ws k) (lowerField ws b r) n
+  lower {p} {r} b l = go (isFieldAt ws b) refl (ltb b r) refl
     where
       -- a node that did not offend, and does not as b
-      still : (k : ℕ) → p k ≡ false → (eqb k b ≡ true → fieldAt ws k ≡ false) → (p k || eqb k b && fieldAt ws k) ≡ false
-      still k e f = neither e (notBoth (eqb k b) (fieldAt ws k) f)
+      still : (k : ℕ) → p k ≡ false → (eqb k b ≡ true → isFieldAt ws k ≡ false) → (p k || eqb k b && isFieldAt ws k) ≡ false
+      still k e f = or-fails e (and-fails (eqb k b) (isFieldAt ws k) f)
 
-      stays : (k : ℕ) → p k ≡ true → (p k || eqb k b && fieldAt ws k) ≡ true
+      stays : (k : ℕ) → p k ≡ true → (p k || eqb k b && isFieldAt ws k) ≡ true
       stays k e = rw e
 
-      go : (x : Bool) → fieldAt ws b ≡ x → (y : Bool) → ltb b r ≡ y → Looked (λ k. p k || eqb k b && fieldAt ws k) (cond (x && y) b r) n
+      go : (x : Bool) → isFieldAt ws b ≡ x → (y : Bool) → ltb b r ≡ y → Looked (λ k. p k || eqb k b && isFieldAt ws k) (cond (x && y) b r) n
       go true q true o =
           let m : b < n = there b q in
           let h : b < r = ltb-true b r o in
@@ -98,11 +98,11 @@ module _ (ws : List ℕ) (n : ℕ) (few : n ≤ nodeLimit) (there : (k : ℕ) �
       go false q y o =
           record {
             most = l .most;
-            clean = λ k u v. still k (l .clean k u v) (λ e. ap (fieldAt ws) (eqb-true k b e) ∙ q);
+            clean = λ k u v. still k (l .clean k u v) (λ e. ap (isFieldAt ws) (eqb-true k b e) ∙ q);
             bad = λ m. (l .bad m .0, stays r (l .bad m .1));
           }
 
-  pub lowest-of : (ks : List ℕ) {p : ℕ → Bool} {r : ℕ} → Looked p r n → Looked (λ k. p k || among k ks && fieldAt ws k) (lowestField ws ks r) n
+  pub lowest-of : (ks : List ℕ) {p : ℕ → Bool} {r : ℕ} → Looked p r n → Looked (λ k. p k || among k ks && isFieldAt ws k) (lowestField ws ks r) n
   unfolding among lowestField
   lowest-of [] {p} l = alike (λ k _. or-false (p k)) l
-  lowest-of (b ∷ ks) {p} l = alike (λ k _. joined (p k) (eqb k b) (among k ks) (fieldAt ws k)) (lowest-of ks (lower b l))
+  lowest-of (b ∷ ks) {p} l = alike (λ k _. joined (p k) (eqb k b) (among k ks) (isFieldAt ws k)) (lowest-of ks (lower b l))

@@ -13,7 +13,7 @@ use Rattle.shapes.specs.Kinds.{operatorKind}
 use Rattle.program.specs.Table.{Definition, noDefinition, among, bodies, nodeLimit}
 use Rattle.program.specs.Tree.{Expr, treeOf, trees, tree, isField, sortBroken}
 use Rattle.program.specs.Check.{sortOffends}
-use Rattle.program.proofs.Tests.{either, second}
+use Rattle.decide.proofs.Picks.{neither, and-second}
 use Rattle.words.specs.Form.{forms, constantForm, parameterForm, foldByForm, callForm, fieldForms}
 use Rattle.words.specs.Word.{form, item, p1, p2, p3, p4, body, count, word}
 use Rattle.words.specs.Trees.{at, made, treeAt}
@@ -27,10 +27,10 @@ use Rattle.nodes.specs.Values.{nodeOf}
 use Rattle.load.specs.declared.Table.{Table}
 use Rattle.load.proofs.Shown.{shown-nodes, shown-node, shown-definition, shown-bodies}
 use Rattle.load.specs.Loads.{tableOf, nodeAt, GoodNode, Good}
-use Rattle.encode.specs.Parts.{formBy, itemBy, kid, IsParts, Fits, Leaf, IsWord}
+use Rattle.encode.specs.Parts.{formBy, itemBy, kid, IsParts, Fits, Childless, IsWord}
 use Rattle.encode.proofs.Words.{Shape, shape, item-fits, form-is}
 use Rattle.sorts.specs.declared.Flags.{Flags}
-use Rattle.sorts.specs.Sorts.{fieldAt, partField, flagsIn, brokenBy, firstBad, lowerField, lowestField}
+use Rattle.sorts.specs.Sorts.{isFieldAt, partField, flagsIn, brokenBy, firstBad, lowerField, lowestField}
 use Rattle.sorts.proofs.ByKind.{no-fields}
 use Rattle.pack.specs.Packs.{Packs}
 use Rattle.pack.proofs.Made.{flagIn, flagsOf, made-is, field-is, broken-is}
@@ -174,7 +174,8 @@ module _ (t : Table) (g : Good t) where
       formed-node : Formed ws k
       formed-node =
           formed (ltb-true (form (word ws k)) forms (shaped .known))
-          (λ l. leb-false checkedForms (form (word ws k)) (second (ltb (form (word ws k)) fieldForms) (leb checkedForms (form (word ws k))) (shaped .number) (lt-ltb (form (word ws k)) fieldForms l)))
+          (λ l. leb-false checkedForms (form (word ws k))
+          (and-second (ltb (form (word ws k)) fieldForms) (leb checkedForms (form (word ws k))) (shaped .number) (lt-ltb (form (word ws k)) fieldForms l)))
           (λ l. let m : 0 < nodeAt t k .kids = rw wide at l in rw (parts-of (omega arith) .isP1) (kid-low 0 _ (good .children 0) m))
           (λ l. let m : 1 < nodeAt t k .kids = rw wide at l in rw (parts-of (omega arith) .isP2) (kid-low 1 _ (good .children 1) m))
           (λ l. let m : 2 < nodeAt t k .kids = rw wide at l in rw (parts-of (omega arith) .isP3) (kid-low 2 _ (good .children 2) m))
@@ -231,24 +232,24 @@ module _ (t : Table) (g : Good t) where
     whole : brokenBy (nodeAt t i .kind) (flags t i) ≡ false → Looked (broken t) r (i + 1)
     whole e = look-clean (broken t) r i (s .looked) (sym (broken-word i h) ∙ e)
 
-    pub leaf : nodeAt t i .kids ≡ 0 → Leaf (nodeAt t i)
-    leaf e = record { fits = fits i h; none = e; count = countOf t i; kind = sym (good i h .kids) ∙ e }
+    pub childless : nodeAt t i .kids ≡ 0 → Childless (nodeAt t i)
+    childless e = record { fits = fits i h; none = e; count = countOf t i; kind = sym (good i h .kids) ∙ e }
 
-    pub leaf-goes : {w : ℕ} → nodeAt t i .kids ≡ 0 → ((side branch : Bool) → IsWord (nodeAt t i) (bodyOf t i) side branch w) → Going t (set ws i w) r (i + 1)
-    leaf-goes e here = grows (here _ _) (whole (rw e (no-fields (nodeAt t i .kind) (countOf t i) (good i h .kind) (sym (good i h .kids) ∙ e))))
+    pub childless-goes : {w : ℕ} → nodeAt t i .kids ≡ 0 → ((side branch : Bool) → IsWord (nodeAt t i) (bodyOf t i) side branch w) → Going t (set ws i w) r (i + 1)
+    childless-goes e here = grows (here _ _) (whole (rw e (no-fields (nodeAt t i .kind) (countOf t i) (good i h .kind) (sym (good i h .kids) ∙ e))))
 
     pub operator : nodeAt t i .kind ≡ operatorKind → (nodeAt t i .kind ≡ operatorKind) × (nodeAt t i .kids ≡ 2) × (nodeAt t i .item < 16)
     operator e = (e, good i h .kids ∙ ap (λ (k : ℕ). kidsOf k (countOf t i)) e, rw e at (fits i h .item))
 
-    pub operator-goes : {a b side : Bool} {w : ℕ} → nodeAt t i .kind ≡ operatorKind → a ≡ fieldAt ws (nodeAt t i .a) → b ≡ fieldAt ws (nodeAt t i .b) → side ≡ a || b
+    pub operator-goes : {a b side : Bool} {w : ℕ} → nodeAt t i .kind ≡ operatorKind → a ≡ isFieldAt ws (nodeAt t i .a) → b ≡ isFieldAt ws (nodeAt t i .b) → side ≡ a || b
         → ((branch : Bool) → IsWord (nodeAt t i) (bodyOf t i) side branch w) → Going t (set ws i w) r (i + 1)
     operator-goes {a} {b} {side} {w} e p q o here = grows (subst (λ (z : Bool). IsWord (nodeAt t i) (bodyOf t i) z (flags t i .b) w) sides (here _)) (whole (rw e))
       where
         two : nodeAt t i .kids ≡ 2
         two = operator e .1
 
-        is : (j c : ℕ) → j < 2 → (j < nodeAt t i .kids → c < i) → fieldAt ws c ≡ flagIn (first t i) (nodeAt t i .kids) j c
-        is j c l f = sym (ap (λ (z : Bool). cond z (fieldAt ws c) false) (lt-ltb j (nodeAt t i .kids) (omega (arith, two)))) ∙ part-same j c f
+        is : (j c : ℕ) → j < 2 → (j < nodeAt t i .kids → c < i) → isFieldAt ws c ≡ flagIn (first t i) (nodeAt t i .kids) j c
+        is j c l f = sym (ap (λ (z : Bool). cond z (isFieldAt ws c) false) (lt-ltb j (nodeAt t i .kids) (omega (arith, two)))) ∙ part-same j c f
 
         sides : side ≡ flags t i .a || flags t i .b
         sides = let c = good i h .children in cc (is 0 (nodeAt t i .a) (omega arith) (c 0), is 1 (nodeAt t i .b) (omega arith) (c 1))
@@ -308,7 +309,7 @@ module _ (t : Table) (g : Good t) where
     module _ (clean : (k : ℕ) → k < t .n → sortOffends (tableOf t) (t .main) k ≡ false) where
       parted : (k : ℕ) → k < t .n → (sortBroken (tree (tableOf t) k) ≡ false) × ((among k (t .main ∷ bodies (tableOf t .definitions)) && isField (tree (tableOf t) k)) ≡ false)
       unfolding sortOffends
-      parted k h = either _ _ (clean k h)
+      parted k h = neither _ _ (clean k h)
 
       -- the body of a definition is a number
       body-number : (d : ℕ) → d < t .defs → isField (treeAt ws (getD (t .bodies) d 0)) ≡ false
@@ -318,7 +319,7 @@ module _ (t : Table) (g : Good t) where
           let l : b < t .n = g .bodies d h in
           let m : among b (bodies (tableOf t .definitions)) ≡ true = rw (shown-bodies t g) (among-taken (t .bodies) (t .defs) d h (omega (arith, g .longBodies, g .defs))) in
           ap isField (same-trees b l)
-          ∙ second (eqb b (t .main) || among b (bodies (tableOf t .definitions))) _ (parted b l .1) (rw m (or-true (eqb b (t .main))))
+          ∙ and-second (eqb b (t .main) || among b (bodies (tableOf t .definitions))) _ (parted b l .1) (rw m (or-true (eqb b (t .main))))
 
       body-of : (k : ℕ) (h : k < t .n) → leadOf (nodeAt t k .kind) ≡ definitionItem → 0 < form (word ws k) → isField (treeAt ws (body (word ws k))) ≡ false
       body-of k h e l = rw (parts k h ws (s .worded k h) l .isBody) (body-number (nodeAt t k .item) (g .nodes k h .definition e .0))
@@ -346,8 +347,8 @@ module _ (t : Table) (g : Good t) where
       all-sorted k l = sorted ws k l all-formed (known k) (all-params k)
 
     -- the bodies and main that are fields
-    field-there : (k : ℕ) → fieldAt ws k ≡ true → k < t .n
-    field-there = by-bound {P = λ k. fieldAt ws k ≡ true → k < t .n} (λ j h _. h) (λ j h e. absurd (omega (arith, zero-form j h, leb-true fieldForms (form (word ws j)) e)))
+    field-there : (k : ℕ) → isFieldAt ws k ≡ true → k < t .n
+    field-there = by-bound {P = λ k. isFieldAt ws k ≡ true → k < t .n} (λ j h _. h) (λ j h e. absurd (omega (arith, zero-form j h, leb-true fieldForms (form (word ws j)) e)))
 
     all-looked : {q m : ℕ} (d : ℕ) → m ≡ lowerField ws (t .main) r → d ≡ t .defs → q ≡ lowestField ws (take d (t .bodies)) m
         → Looked (sortOffends (tableOf t) (t .main)) q (t .n)
@@ -368,5 +369,5 @@ module _ (t : Table) (g : Good t) where
           params = λ k l. all-params k;
           place = rw (← shown-nodes t g) (answer (sortOffends (tableOf t) (t .main)) q (t .n) (g .n) l);
           most = l .most;
-          sorted = λ e. all-sorted (λ k h. l .clean k h (omega (arith, g .n)));
+          sorted = λ e. record { node = all-sorted (λ k h. l .clean k h (omega (arith, g .n))) };
         }

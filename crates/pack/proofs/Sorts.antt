@@ -9,7 +9,7 @@ use lib.Dec.{eqb, leb, ltb}
 use borrow.Author.Tests.{leb-true, leb-false, lt-leb, not-false}
 use Rattle.program.specs.Table.{nodeLimit}
 use Rattle.program.specs.Tree.{isField, sortBroken}
-use Rattle.program.proofs.Tests.{either}
+use Rattle.decide.proofs.Picks.{neither}
 use Rattle.words.specs.Form.{parameterForm, operatorForm, senseForm, repForm, ifForm, muxForm, foldByForm, callForm, foldForm, nbrForm, fieldIfForm, fieldOperatorForm, fieldForms}
 use Rattle.words.specs.Word.{form, item, p1, p2, p3, p4, body, count, word}
 use Rattle.words.specs.Trees.{argOf, treeAt}
@@ -60,7 +60,7 @@ module _ (ws : List ℕ) (n : ℕ) (l : n < nodeLimit) (all : AllFormed ws) (s :
   oper h =
       let a : p1 (word ws n) < n = op 0 operatorForm h refl (omega arith) (omega arith) in
       let b : p2 (word ws n) < n = op 1 operatorForm h refl (omega arith) (omega arith) in
-      let q = either _ _ (sym (ap isField (tree-oper ws n h a b)) ∙ own operatorForm h) in
+      let q = neither _ _ (sym (ap isField (tree-oper ws n h a b)) ∙ own operatorForm h) in
       (num _ a (q .0), num _ b (q .1))
 
   sense : form (word ws n) ≡ senseForm → Num ws n (p1 (word ws n))
@@ -74,7 +74,7 @@ module _ (ws : List ℕ) (n : ℕ) (l : n < nodeLimit) (all : AllFormed ws) (s :
   rep h =
       let a : p1 (word ws n) < n = op 0 repForm h refl (omega arith) (omega arith) in
       let b : p2 (word ws n) < n = op 1 repForm h refl (omega arith) (omega arith) in
-      let q = either _ _ (sym (ap sortBroken (tree-rep ws n h a b)) ∙ s .whole) in
+      let q = neither _ _ (sym (ap sortBroken (tree-rep ws n h a b)) ∙ s .whole) in
       (num _ a (q .0), num _ b (q .1))
 
   ifN : form (word ws n) ≡ ifForm → Num ws n (p1 (word ws n)) × Num ws n (p2 (word ws n)) × Num ws n (p3 (word ws n))
@@ -84,7 +84,7 @@ module _ (ws : List ℕ) (n : ℕ) (l : n < nodeLimit) (all : AllFormed ws) (s :
       let b : p2 (word ws n) < n = op 1 ifForm h refl (omega arith) (omega arith) in
       let c : p3 (word ws n) < n = op 2 ifForm h refl (omega arith) (omega arith) in
       let e = tree-if ws n h a b c in
-      let q = either _ _ (sym (ap sortBroken e) ∙ s .whole) in
+      let q = neither _ _ (sym (ap sortBroken e) ∙ s .whole) in
       let f : isField (treeAt ws (p2 (word ws n))) ≡ false = sym (ap isField e) ∙ own ifForm h in
       (num _ a (q .0), num _ b f, num _ c (one-sort (isField (treeAt ws (p2 (word ws n)))) (isField (treeAt ws (p3 (word ws n)))) (q .1) ∙ f))
 
@@ -94,8 +94,8 @@ module _ (ws : List ℕ) (n : ℕ) (l : n < nodeLimit) (all : AllFormed ws) (s :
       let a : p1 (word ws n) < n = op 0 muxForm h refl (omega arith) (omega arith) in
       let b : p2 (word ws n) < n = op 1 muxForm h refl (omega arith) (omega arith) in
       let c : p3 (word ws n) < n = op 2 muxForm h refl (omega arith) (omega arith) in
-      let q = either _ _ (sym (ap sortBroken (tree-mux ws n h a b c)) ∙ s .whole) in
-      let r = either _ _ (q .0) in
+      let q = neither _ _ (sym (ap sortBroken (tree-mux ws n h a b c)) ∙ s .whole) in
+      let r = neither _ _ (q .0) in
       (num _ a (r .0), num _ b (r .1), num _ c (q .1))
 
   foldBy : form (word ws n) ≡ foldByForm → Num ws n (body (word ws n)) × Num ws n (p1 (word ws n)) × Fld ws n (p2 (word ws n))
@@ -104,7 +104,7 @@ module _ (ws : List ℕ) (n : ℕ) (l : n < nodeLimit) (all : AllFormed ws) (s :
       let o : body (word ws n) < n = all .node n l .folds h in
       let a : p1 (word ws n) < n = op 0 foldByForm h refl (omega arith) (omega arith) in
       let b : p2 (word ws n) < n = op 1 foldByForm h refl (omega arith) (omega arith) in
-      let q = either _ _ (sym (ap sortBroken (tree-fold ws n h o a b)) ∙ s .whole) in
+      let q = neither _ _ (sym (ap sortBroken (tree-fold ws n h o a b)) ∙ s .whole) in
       (num _ o (s .folds h), num _ a (q .0), fld _ b (not-false _ (q .1)))
 
   argument : (j k : ℕ) → k < n → isField (argOf ws (ltb j (count (word ws n))) k) ≡ false → Arg ws n j k
@@ -117,9 +117,9 @@ module _ (ws : List ℕ) (n : ℕ) (l : n < nodeLimit) (all : AllFormed ws) (s :
   call h =
       let o : body (word ws n) < n = all .node n l .calls h in
       let a = s .absent h in
-      let q = either _ _ (sym (ap sortBroken (tree-call ws n h o (λ _. a .0) (λ _. a .1) (λ _. a .2) (λ _. a .3))) ∙ s .whole) in
-      let r = either _ _ (q .0) in
-      let t = either _ _ (r .0) in
+      let q = neither _ _ (sym (ap sortBroken (tree-call ws n h o (λ _. a .0) (λ _. a .1) (λ _. a .2) (λ _. a .3))) ∙ s .whole) in
+      let r = neither _ _ (q .0) in
+      let t = neither _ _ (r .0) in
       (num _ o (s .calls h), argument 0 _ (a .0) (t .0), argument 1 _ (a .1) (t .1), argument 2 _ (a .2) (r .1), argument 3 _ (a .3) (q .1))
 
   foldOp : form (word ws n) ≡ foldForm → Num ws n (p1 (word ws n)) × Fld ws n (p2 (word ws n))
@@ -127,7 +127,7 @@ module _ (ws : List ℕ) (n : ℕ) (l : n < nodeLimit) (all : AllFormed ws) (s :
   foldOp h =
       let a : p1 (word ws n) < n = op 0 foldForm h refl (omega arith) (omega arith) in
       let b : p2 (word ws n) < n = op 1 foldForm h refl (omega arith) (omega arith) in
-      let q = either _ _ (sym (ap sortBroken (tree-foldop ws n h a b)) ∙ s .whole) in
+      let q = neither _ _ (sym (ap sortBroken (tree-foldop ws n h a b)) ∙ s .whole) in
       (num _ a (q .0), fld _ b (not-false _ (q .1)))
 
   nbr : form (word ws n) ≡ nbrForm → Num ws n (p1 (word ws n))
@@ -143,7 +143,7 @@ module _ (ws : List ℕ) (n : ℕ) (l : n < nodeLimit) (all : AllFormed ws) (s :
       let b : p2 (word ws n) < n = op 1 fieldIfForm h refl (omega arith) (omega arith) in
       let c : p3 (word ws n) < n = op 2 fieldIfForm h refl (omega arith) (omega arith) in
       let e = tree-iff ws n h a b c in
-      let q = either _ _ (sym (ap sortBroken e) ∙ s .whole) in
+      let q = neither _ _ (sym (ap sortBroken e) ∙ s .whole) in
       let f : isField (treeAt ws (p2 (word ws n))) ≡ true = sym (ap isField e) ∙ own fieldIfForm h in
       (num _ a (q .0), fld _ b f, fld _ c (one-sort (isField (treeAt ws (p2 (word ws n)))) (isField (treeAt ws (p3 (word ws n)))) (q .1) ∙ f))
 

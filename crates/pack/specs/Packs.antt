@@ -11,7 +11,7 @@ use Rattle.program.specs.Tree.{tree, isField}
 use Rattle.program.specs.Check.{lowest, offending, sortOffends}
 use Rattle.words.specs.Word.{form, item, word}
 use Rattle.words.specs.Trees.{treeAt}
-use Rattle.words.specs.Sound.{Sorted}
+use Rattle.words.specs.Sound.{AllSorted}
 use Rattle.operands.specs.Formed.{AllFormed}
 use Rattle.load.specs.declared.Table.{Table}
 use Rattle.nodes.specs.declared.Node.{Node}
@@ -37,4 +37,4 @@ pub record Packs (t : Table) (ws : List ℕ) (r : ℕ) : Type 0 where
   pub params : (n : ℕ) → n < nodeLimit → form (word ws n) ≡ parameterForm → item (word ws n) < 4
   pub place : lowest (offending (sortOffends (tableOf t) (t .main)) (length (tableOf t .nodes))) ≡ found r
   pub most : r ≤ nodeLimit
-  pub sorted : r ≡ nodeLimit → (n : ℕ) → n < nodeLimit → Sorted ws n
+  pub sorted : r ≡ nodeLimit → AllSorted ws

@@ -1,5 +1,5 @@
 // A loaded table as words, and the lowest node whose sort is broken (refusal 7).
-use encode::leaf_word;
+use encode::childless_word;
 use encode::operator_word;
 use encode::word_of;
 use sorts::broken;
@@ -44,7 +44,7 @@ pub fn pack(
         items[i] = x.item;
         // a node without children and an operator have no sort to break
         if x.kids == 0 {
-            ws[i] = leaf_word(x, body);
+            ws[i] = childless_word(x, body);
         } else if x.kind == shapes::OPERATOR {
             ws[i] = operator_word(x, body, either(is_field(ws, x.a), is_field(ws, x.b)));
         } else {

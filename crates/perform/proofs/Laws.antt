@@ -19,23 +19,22 @@ use Rattle.event.specs.Calls.{answerWidth, flat, performed}
 use Rattle.wire_reader.specs.declared.Field.the-variants.{Whole, Cut}
 use Rattle.wire_reader.specs.Field.{fieldAt}
 use Rattle.effects.specs.declared.Answer.{Answer}
-use Rattle.effects.specs.Does.{Does, Lit, Idle}
+use Rattle.effects.specs.Does.{Acts, Does, Lit, Idle}
 use Rattle.network.proofs.Stores.{nothing-yet, store-cons}
 use Rattle.effects.proofs.Lit.{lit-kept}
 use Rattle.effects.proofs.Idle.{idle-kept}
-use Rattle.fire.specs.Fires.{Fires}
 use Rattle.lists.specs.declared.Event as coded
 use Rattle.lists.specs.Listed.{asRead}
 use Rattle.lists.proofs.Left.{Left, Next, left-begin, left-end, left-next, never-cut}
-use Rattle.perform.specs.Performs.{meant, Acts, Tested, Performs}
+use Rattle.perform.specs.Performs.{meant, Tested, Performs}
 
 -- ---- an event by its own name
 module _ {main : Expr} {n : List ℤ} {c : Event} {r : Answer} {n′ : List ℤ} where
   pub acts : (d : Event) → c ≡ d → Does n d r n′ → Acts main n c r n′
-  acts d e f = rw e (record { network = f .network main; answer = f .answer main })
+  acts d e f = rw e (f main)
 
-  pub acts-fire : (a : ℕ) → c ≡ fire a → Fires main n a r n′ → Acts main n c r n′
-  acts-fire a e f = rw e (record { network = f .network; answer = f .answer })
+  pub acts-fire : (a : ℕ) → c ≡ fire a → Acts main n (fire a) r n′ → Acts main n c r n′
+  acts-fire a e f = rw e f
 
 -- ---- what the tests say
 all-read : (r : Read) → listVerdict r ≡ (0, 0) → r ≡ entries (entriesOf r)

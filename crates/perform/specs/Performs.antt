@@ -5,26 +5,19 @@ use Prim.Native.Nat.{ℕ}
 use lib.IntN.{ℤ}
 use Rattle.program.specs.Tree.{Expr}
 use Rattle.event.specs.Event.{Event, Entry, orNone, readList, entriesOf, listVerdict}
-use Rattle.event.specs.Step.{doEvent}
 use Rattle.event.specs.Calls.{room, performed}
-use Rattle.effects.specs.declared.Answer.{Answer}
-use Rattle.effects.specs.Does.{answerOf, Lit}
+use Rattle.effects.specs.Does.{Lit}
 use Rattle.lists.specs.declared.Event as coded
 use Rattle.lists.specs.Listed.{asRead}
-use Rattle.fire.specs.Fires.{Ready}
+use Rattle.fire.specs.Fires.{MayFire}
 
 -- the event of each case of the code's; `Bad` stands for a fire of no device, as in the crate event
 abbrev pub meant : coded.Event → Event
 meant e = orNone (asRead e)
 
--- the event e takes the network n to n′ and is answered r, in the program main
-pub record Acts (main : Expr) (n : List ℤ) (e : Event) (r : Answer) (n′ : List ℤ) : Type 0 where
-  pub network : n′ ≡ doEvent main n e .0
-  pub answer : answerOf r ≡ doEvent main n e .1
-
 -- all that is tested before: a sound table, a sound network, a list that was read, and room for its answers
 pub record Tested (ws us : List ℕ) (main : ℕ) (n : List ℤ) (s : List ℕ) (space : List ℤ) : Type 0 where
-  pub ready : Ready ws us main n
+  pub ready : MayFire ws us main n
   pub lit : Lit n
   pub read : listVerdict (readList s) ≡ (0, 0)
   pub fits : room (entriesOf (readList s)) space ≡ (0, 0)

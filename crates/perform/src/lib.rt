@@ -3,9 +3,9 @@ ghost use mathlib.Core.Path.{_≡_};
 ghost use Rattle.event.specs.Event.{readList, entriesOf};
 ghost use Rattle.verdict.specs.Pair.{pair};
 ghost use Rattle.words.specs.Trees.{treeAt};
-ghost use Rattle.effects.specs.Does.{Lit};
-ghost use Rattle.fire.specs.Fires.{Ready};
-ghost use Rattle.perform.specs.Performs.{meant, Acts, Tested, Performs};
+ghost use Rattle.effects.specs.Does.{Acts, Lit};
+ghost use Rattle.fire.specs.Fires.{MayFire};
+ghost use Rattle.perform.specs.Performs.{meant, Tested, Performs};
 
 // One event. `Bad` stands for a fire of no device, and is answered so. `st`: what a round uses as its state.
 fn do_event(
@@ -16,7 +16,7 @@ fn do_event(
     e: lists::Event,
     st: &mut [i32; layout::STATE],
 ) -> effects::Answer
-    requires { ⌜ Ready (now t) (now u) main (now net) × Lit (now net) ⌝ }
+    requires { ⌜ MayFire (now t) (now u) main (now net) × Lit (now net) ⌝ }
     ensures { λ r. ⌜ Acts (treeAt (now (t .entry)) main) (now (net .entry)) (meant e) r (now (net .exit)) ⌝ }
 {
     match e {

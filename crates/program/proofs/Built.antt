@@ -6,7 +6,7 @@ use Prim.Native.Nat.{ℕ, zero, suc, _+_, _≤_, _<_}
 use native.Mathlib.Omega.{arith}
 use lib.ListN.{length, getD, length-append}
 use Rattle.program.specs.Table.{Item, kindCount, nodeLimit, definitionLimit, items, Node, Definition, Table, allNumbers, named, bodies, definitionAt}
-use Rattle.program.specs.Conditions.{Part, node, define, nodesOf, definitionsOf, tableOf, Given, InRange, howOften}
+use Rattle.program.specs.Conditions.{Part, node, define, nodesOf, definitionsOf, tableOf, GivenBefore, InRange, howOften}
 use Rattle.program.proofs.Names.{Fresh, howOften-append}
 use Rattle.program.proofs.Steps.{grow, children, only, Fits, Ends, Steps}
 use Rattle.program.proofs.Bodied.{Bodied, bodied-leads}
@@ -63,7 +63,7 @@ module _ (ps : List Part) (main : ℕ) (st : Steps (tableOf []) ps main) where
       let named = f .given .1 _ (bodied-leads x (f .own .ranges) (inr e) .names) in
       rw (same-definition (r .before) (node x ∷ r .after) (r .same) (getD (x .values) 0 0) named) (f .own .arguments e)
 
-  pub built-given : (before after : List Part) (p : Part) → ps ≡ before ++ p ∷ after → Given (tableOf before) p
+  pub built-given : (before after : List Part) (p : Part) → ps ≡ before ++ p ∷ after → GivenBefore (tableOf before) p
   built-given before after p e = fits before after p e .given
 
   pub built-bodied : (x : Node) → List·Memᴰ x (nodesOf ps) → Bodied (x .kind) → getD (x .values) 0 0 < length (definitionsOf ps)

@@ -7,9 +7,9 @@ use native.Mathlib.Omega.{arith}
 use lib.ListN.{length, getD}
 use borrow.Author.Tests.{eqb-true, leb-false, lt-leb, ltb-false, le-ltb, not-false}
 use Rattle.wire.specs.Wire.{Fields, end}
-use Rattle.program.specs.Table.{definitionLimit, slot, keeps, Definition, Table, allNumbers, named, definitionRows, mainRows, unnamed, isEnd, Rows}
+use Rattle.program.specs.Table.{definitionLimit, slot, keeps, Definition, Table, allNumbers, named, definitionRows, mainRows, unnamed, isEnd, RefusalRows}
 use Rattle.program.specs.Conditions.{define}
-use Rattle.program.proofs.Rows.{Clear, done, _&_, test}
+use Rattle.program.proofs.RefusalRows.{Clear, done, _&_, test}
 use Rattle.program.proofs.Names.{fresh-none, fresh-one, one-fresh, among-howOften, howOften-among, unnamed-among, among-unnamed}
 use Rattle.program.proofs.Steps.{Fits, Ends}
 
@@ -42,7 +42,7 @@ fits-definition t d f =
     & done
 
 -- the rows of the table's end
-abbrev pub endRows : Table → ℕ → Fields → Rows
+abbrev pub endRows : Table → ℕ → Fields → RefusalRows
 endRows t main rest = (not (isEnd rest), 6) ∷ (unnamed (length (t .nodes)) (main ∷ named t), 6) ∷ []
 
 pub main-bytes : (t : Table) (s : List ℕ) → Clear (mainRows t s) → s ≡ getD s 0 0 ∷ []

@@ -13,7 +13,7 @@ use Rattle.program.specs.Table.{slot, keeps, Definition, Loaded, noDefin
 use Rattle.program.specs.Tree.{tree, isField, sortBroken}
 use Rattle.program.specs.Check.{Verdict, check, treeRows, sortOffends}
 use Rattle.program.specs.Conditions.{Part, nodesOf, definitionsOf, tableOf, programBytes, Bytes, Acceptable, Meets}
-use Rattle.program.proofs.Tests.{known, either, neither, second, notBoth}
+use Rattle.decide.proofs.Picks.{known, neither, or-fails, and-second, and-fails}
 use Rattle.program.proofs.Names.{among-mem, mem-among}
 use Rattle.program.proofs.Steps.{Steps}
 use Rattle.program.proofs.Loading.{accepted, loads, loads-steps}
@@ -49,8 +49,8 @@ module _ (ps : List Part) (main : ℕ) (m : Meets ps main) where
   unfolding sortOffends
   passes = record {
     sorts = λ n h.
-        neither (unbroken (m .sorts n h .1))
-        (notBoth (among n (main ∷ bodies (definitionsOf ps))) _ (λ a. number-of (List·Memᴰ·cases-cons (among-mem n _ a))));
+        or-fails (unbroken (m .sorts n h .1))
+        (and-fails (among n (main ∷ bodies (definitionsOf ps))) _ (λ a. number-of (List·Memᴰ·cases-cons (among-mem n _ a))));
     mainRead = scoped-read 0 (m .mainScope);
     bodiesRead = scoped-bodies (tableOf ps) (definitionsOf ps) (m .bodyScopes);
     uses =
@@ -74,10 +74,10 @@ module _ (ps : List Part) (main : ℕ) (st : Steps (tableOf []) ps main) (p : Pa
   sound : (n : ℕ) → n < length (nodesOf ps)
       → (sortBroken (tree (tableOf ps) n) ≡ false) × ((among n (main ∷ bodies (definitionsOf ps)) && isField (tree (tableOf ps) n)) ≡ false)
   unfolding sortOffends
-  sound n h = either (sortBroken (tree (tableOf ps) n)) _ (p .sorts n h)
+  sound n h = neither (sortBroken (tree (tableOf ps) n)) _ (p .sorts n h)
 
   number-at : (n : ℕ) → n < length (nodesOf ps) → List·Memᴰ n (main ∷ bodies (definitionsOf ps)) → isField (tree (tableOf ps) n) ≡ false
-  number-at n h i = second (among n (main ∷ bodies (definitionsOf ps))) _ (sound n h .1) (mem-among i)
+  number-at n h i = and-second (among n (main ∷ bodies (definitionsOf ps))) _ (sound n h .1) (mem-among i)
 
   body-at : (d : Definition) → List·Memᴰ d (definitionsOf ps) → isField (tree (tableOf ps) (d .body)) ≡ false
   body-at d i = number-at (d .body) (built-body ps main st d i) (List·Memᴰ·tail (body-mem i))

@@ -6,7 +6,7 @@ use Prim.Native.Nat.{ℕ, _+_, _≤_, _<_}
 use native.Mathlib.Omega.{arith}
 use lib.ListN.{length, getD, length-append}
 use Rattle.program.specs.Table.{Item, slot, keeps, child, Node, Definition, Table, numbers, allNumbers, named}
-use Rattle.program.specs.Conditions.{Part, node, define, nodesOf, definitionsOf, tableOf, Given, Meets, howOften}
+use Rattle.program.specs.Conditions.{Part, node, define, nodesOf, definitionsOf, tableOf, GivenBefore, Meets, howOften}
 use Rattle.program.proofs.Names.{Fresh, howOften-append, howOften-among, among-mem, one}
 use Rattle.program.proofs.Steps.{grow, joined, joined-none, joined-grow, children, only, NodeFits, DefinitionFits, Own, Fits, Ends, Steps}
 use Rattle.program.proofs.Bodied.{bodied-leads}
@@ -17,7 +17,7 @@ table-grow : (before : List Part) (p : Part) → tableOf (before ++ p ∷ []) �
 table-grow before p = split-table before (p ∷ []) refl ∙ sym (joined-grow (tableOf before) p []) ∙ joined-none (grow (tableOf before) p)
 
 -- a part names only nodes that are given
-children-given : (t : Table) (p : Part) → Given t p → (k : ℕ) → 0 < howOften k (children p) → k < length (t .nodes)
+children-given : (t : Table) (p : Part) → GivenBefore t p → (k : ℕ) → 0 < howOften k (children p) → k < length (t .nodes)
 children-given t (node x) g k h = g .0 k (among-mem k (numbers child x) (howOften-among k (numbers child x) h))
 children-given t (define d) g k h = go (one k (d .body))
   where

@@ -10,9 +10,9 @@ use lib.Seq.{take-append-seam, drop-append-seam, length-take-le}
 use lib.Dec.{eqb, ltb}
 use borrow.Author.Tests.{eqb-true, eqb-false, not-true, not-false, ltb-true, lt-ltb, ne-eqb}
 use Rattle.wire.specs.Wire.{bigFrom, big}
-use Rattle.program.specs.Table.{Item, constant, operator, parameter, variable, keeps, slot, child, definition, kinds, itemsOf, width, size, valuesIn, inRange, outside}
+use Rattle.program.specs.Table.{kindCount, Item, constant, operator, parameter, variable, keeps, slot, child, definition, kinds, itemsOf, width, size, valuesIn, inRange, outside}
 use Rattle.program.specs.Conditions.{Bytes, itemBytes, itemsBytes, Ranged, InRange, none, more}
-use Rattle.program.proofs.Tests.{either, both, neither}
+use Rattle.decide.proofs.Picks.{neither, both, or-fails}
 
 -- every item but the constant is one byte
 one-byte : (i : Item) → (i ≡ constant) ⊎ ((width i ≡ 1) × ((v : ℕ) → itemBytes i v ≡ v ∷ []))
@@ -139,15 +139,15 @@ unfolding valuesIn outside
 inside-range [] s e = none
 inside-range (i ∷ is) s e =
     let v : ℕ = big (take (width i) s) in
-    more (in-range i v (not-false (inRange i v) (either (not (inRange i v)) _ e .0))) (inside-range is (drop (width i) s) (either (not (inRange i v)) _ e .1))
+    more (in-range i v (not-false (inRange i v) (neither (not (inRange i v)) _ e .0))) (inside-range is (drop (width i) s) (neither (not (inRange i v)) _ e .1))
 
 pub range-inside : {is : List Item} {vs : List ℕ} → InRange is vs → outside is vs ≡ false
 unfolding outside
 range-inside none = refl
-range-inside (more {i} {is} {v} {vs} h r) = neither {a = not (inRange i v)} (rw (range-in i v h)) (range-inside r)
+range-inside (more {i} {is} {v} {vs} h r) = or-fails {a = not (inRange i v)} (rw (range-in i v h)) (range-inside r)
 
 -- only a call's items depend on the count
-pub same-items : (kind m n : ℕ) → kind < 13 → (kind ≡ 12 → m ≡ n) → itemsOf kind m ≡ itemsOf kind n
+pub same-items : (kind m n : ℕ) → kind < kindCount → (kind ≡ 12 → m ≡ n) → itemsOf kind m ≡ itemsOf kind n
 same-items kind m n h f = go (eqb kind 12) refl
   where
     go : (b : Bool) → eqb kind 12 ≡ b → itemsOf kind m ≡ itemsOf kind n

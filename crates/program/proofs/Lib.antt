@@ -1,5 +1,4 @@
-pub mod Tests
-pub mod Rows
+pub mod RefusalRows
 pub mod Names
 pub mod Items
 pub mod Fields

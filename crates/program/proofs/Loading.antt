@@ -8,9 +8,10 @@ use lib.ListN.{length, getD, length-append}
 use lib.Dec.{eqb}
 use borrow.Author.Tests.{eqb-true, not-false}
 use Rattle.wire.specs.Wire.{Fields, end, whole, fieldsIn}
-use Rattle.program.specs.Table.{Node, Table, Loaded, Entry, aNode, aDefinition, aMain, unknown, entryOf, onEntry, loadFrom, nodeOf, nodeRows, definitionRows, mainRows, withNode, Rows, unless}
+use Rattle.program.specs.Table.{Node, Table, Loaded, TableEntry, aNode, aDefinition, aMain, unknown, entryOf, onEntry, loadFrom, nodeOf}
+use Rattle.program.specs.Table.{nodeRows, definitionRows, mainRows, withNode, RefusalRows, unless}
 use Rattle.program.specs.Conditions.{Part, node, define, fieldBytes, partBytes, programBytes, Bytes}
-use Rattle.program.proofs.Rows.{numbered, Clear, test, clear-next, next-clear}
+use Rattle.program.proofs.RefusalRows.{numbered, Clear, test, clear-next, next-clear}
 use Rattle.program.proofs.Items.{bytes-left, bytes-right}
 use Rattle.program.proofs.Fields.{first-field, Begins, at-end, at-cut, at-field, begins, ends, no-field}
 use Rattle.program.proofs.Steps.{grow, joined, joined-none, joined-grow, Fits, Steps}
@@ -76,11 +77,11 @@ Sound place t f s = loadFrom place t f .number ≡ 0 → Loads t s (loadFrom pla
 
 -- a field and the rest, where the rest is loaded rightly from any table
 module _ (place : ℕ) (t : Table) (rest : List ℕ) (k : ℕ) (later : (u : Table) → Sound (suc place) u (fieldsIn k rest) rest) where
-  abbrev entered : Entry → Loaded
+  abbrev entered : TableEntry → Loaded
   entered e = onEntry place t e (fieldsIn k rest) (λ u. loadFrom (suc place) u (fieldsIn k rest))
 
   -- a part whose rows make it fit
-  enter-part : (p : Part) (rows : Rows) → numbered rows ≡ true → (Clear rows → Fits t p)
+  enter-part : (p : Part) (rows : RefusalRows) → numbered rows ≡ true → (Clear rows → Fits t p)
       → unless rows place (loadFrom (suc place) (grow t p) (fieldsIn k rest)) .number ≡ 0
       → Clear rows × Loads t (partBytes p ++ rest) (unless rows place (loadFrom (suc place) (grow t p) (fieldsIn k rest)))
   enter-part p rows h f e =
@@ -115,7 +116,7 @@ module _ (place : ℕ) (t : Table) (rest : List ℕ) (k : ℕ) (later : (u : Tab
       }
 
   -- the loading goes on from the entry only where it accepts the field's bytes and the rest
-  abbrev Enters : ℕ → List ℕ → Entry → Type 0
+  abbrev Enters : ℕ → List ℕ → TableEntry → Type 0
   Enters tag body e = entered e .number ≡ 0 → Loads t (fieldBytes tag body ++ rest) (entered e)
 
   enter : (tag : ℕ) (body : List ℕ) → Bytes body → Stands tag body → Enters tag body (entryOf tag body)

@@ -9,7 +9,7 @@ use lib.Dec.{eqb, leb}
 use borrow.Author.Tests.{eqb-true, eqb-false, eq-eqb, leb-false, lt-leb, not-false}
 use Rattle.program.specs.Table.{among, beyond, takenBy, unnamed}
 use Rattle.program.specs.Conditions.{howOften}
-use Rattle.program.proofs.Tests.{known, either, neither}
+use Rattle.decide.proofs.Picks.{known, neither, or-fails}
 
 pub among-append : (k : ℕ) (ms ns : List ℕ) → among k (ms ++ ns) ≡ (among k ms || among k ns)
 unfolding among
@@ -98,7 +98,7 @@ pub taken-fresh : (taken ns : List ℕ) → takenBy taken ns ≡ false → Fresh
 unfolding takenBy
 taken-fresh taken [] e k h = unfold howOften in absurd (omega arith)
 taken-fresh taken (n ∷ ns) e k h =
-    go (howOften k ns) refl (one k n) (taken-fresh (n ∷ taken) ns (either (among n taken) _ e .1) k) (absent-howOften n taken (either (among n taken) _ e .0))
+    go (howOften k ns) refl (one k n) (taken-fresh (n ∷ taken) ns (neither (among n taken) _ e .1) k) (absent-howOften n taken (neither (among n taken) _ e .0))
   where
     go : (m : ℕ) → howOften k ns ≡ m → (howOften k (n ∷ []) ≡ 0) ⊎ (k ≡ n) → (0 < howOften k ns → howOften k (n ∷ taken) + howOften k ns ≤ 1) → howOften n taken ≡ 0
         → howOften k taken + howOften k (n ∷ ns) ≤ 1
@@ -113,7 +113,7 @@ fresh-taken taken (n ∷ ns) f =
     let t = howOften-append n (n ∷ []) ns in
     let s = self n in
     let z : howOften n taken ≡ 0 = omega (arith, f n (omega arith)) in
-    neither (howOften-absent n taken z)
+    or-fails (howOften-absent n taken z)
     (fresh-taken (n ∷ taken) ns
     (λ k h. let u = howOften-append k (n ∷ []) ns in omega (arith, f k (omega arith), howOften-append k (n ∷ []) taken)))
 
@@ -123,34 +123,34 @@ fresh-none taken = taken-fresh taken [] refl
 
 pub fresh-one : (taken : List ℕ) (k : ℕ) → among k taken ≡ false → Fresh taken (k ∷ [])
 unfolding takenBy
-fresh-one taken k e = taken-fresh taken (k ∷ []) (neither e refl)
+fresh-one taken k e = taken-fresh taken (k ∷ []) (or-fails e refl)
 
 pub one-fresh : (taken : List ℕ) (k : ℕ) → Fresh taken (k ∷ []) → among k taken ≡ false
 unfolding takenBy
-one-fresh taken k f = either _ false (fresh-taken taken (k ∷ []) f) .0
+one-fresh taken k f = neither _ false (fresh-taken taken (k ∷ []) f) .0
 
 -- none is beyond the bound exactly where all are below
 pub beyond-mem : {bound k : ℕ} {ns : List ℕ} → beyond bound ns ≡ false → List·Memᴰ k ns → k < bound
 unfolding beyond
-beyond-mem {bound} e (List·Memᴰ·head {x = n} q) = omega (arith, leb-false bound n (either _ _ e .0))
-beyond-mem {bound} e (List·Memᴰ·tail {x = n} m) = beyond-mem (either (leb bound n) _ e .1) m
+beyond-mem {bound} e (List·Memᴰ·head {x = n} q) = omega (arith, leb-false bound n (neither _ _ e .0))
+beyond-mem {bound} e (List·Memᴰ·tail {x = n} m) = beyond-mem (neither (leb bound n) _ e .1) m
 
 pub mem-beyond : (bound : ℕ) (ns : List ℕ) → ((k : ℕ) → List·Memᴰ k ns → k < bound) → beyond bound ns ≡ false
 unfolding beyond
 mem-beyond bound [] f = refl
-mem-beyond bound (n ∷ ns) f = neither (lt-leb bound n (f n (List·Memᴰ·head refl))) (mem-beyond bound ns (λ k m. f k (List·Memᴰ·tail m)))
+mem-beyond bound (n ∷ ns) f = or-fails (lt-leb bound n (f n (List·Memᴰ·head refl))) (mem-beyond bound ns (λ k m. f k (List·Memᴰ·tail m)))
 
 -- none below n is unnamed exactly where all are named
 pub unnamed-among : (n : ℕ) (ns : List ℕ) → unnamed n ns ≡ false → (k : ℕ) → k < n → among k ns ≡ true
 unfolding unnamed
 unnamed-among zero ns e k h = absurd (omega arith)
-unnamed-among (suc n) ns e k h = go (eqb k n) refl (unnamed-among n ns (either (not (among n ns)) _ e .1) k)
+unnamed-among (suc n) ns e k h = go (eqb k n) refl (unnamed-among n ns (neither (not (among n ns)) _ e .1) k)
   where
     go : (b : Bool) → eqb k n ≡ b → (k < n → among k ns ≡ true) → among k ns ≡ true
-    go true q f = rw (eqb-true k n q) (not-false (among n ns) (either _ (unnamed n ns) e .0))
+    go true q f = rw (eqb-true k n q) (not-false (among n ns) (neither _ (unnamed n ns) e .0))
     go false q f = f (let d : k ≡ n → ⊥ = eqb-false k n q in omega arith)
 
 pub among-unnamed : (n : ℕ) (ns : List ℕ) → ((k : ℕ) → k < n → among k ns ≡ true) → unnamed n ns ≡ false
 unfolding unnamed
 among-unnamed zero ns f = refl
-among-unnamed (suc n) ns f = neither {a = not (among n ns)} (rw (f n (omega arith))) (among-unnamed n ns (λ k h. f k (omega arith)))
+among-unnamed (suc n) ns f = or-fails {a = not (among n ns)} (rw (f n (omega arith))) (among-unnamed n ns (λ k h. f k (omega arith)))

@@ -8,11 +8,11 @@ use native.Mathlib.Omega.{arith}
 use lib.ListN.{length, getD, length-replicate}
 use borrow.Author.Tests.{eqb-true, eq-eqb, ne-eqb, leb-false, lt-leb, not-false}
 use Rattle.wire.specs.Wire.{bigFrom}
-use Rattle.program.specs.Table.{Item, nodeLimit, slot, keeps, child, definition, itemsOf, size, valuesIn, outside, items, Node, Table, numbers, allNumbers, named}
+use Rattle.program.specs.Table.{kindCount, Item, nodeLimit, slot, keeps, child, definition, itemsOf, size, valuesIn, outside, items, Node, Table, numbers, allNumbers, named}
 use Rattle.program.specs.Table.{beyond, takenBy, definitionAt, isCall, nodeOf, nodeRows}
 use Rattle.program.specs.Conditions.{node, itemsBytes, Bytes}
-use Rattle.program.proofs.Tests.{either, neither, notBoth}
-use Rattle.program.proofs.Rows.{Clear, done, _&_, test}
+use Rattle.decide.proofs.Picks.{neither, or-fails, and-fails}
+use Rattle.program.proofs.RefusalRows.{Clear, done, _&_, test}
 use Rattle.program.proofs.Names.{taken-fresh, fresh-taken, beyond-mem, mem-beyond}
 use Rattle.program.proofs.Items.{length-items, values-of, bytes-of, length-values, inside-range, range-inside, same-items}
 use Rattle.program.proofs.Bodied.{Leads, bodied-leads}
@@ -52,8 +52,8 @@ module _ (t : Table) (kind : ℕ) (s : List ℕ) (b : Bytes s) (c : Clear (nodeR
   abbrev x : Node
   x = nodeOf t kind s
 
-  node-known : kind < 13
-  node-known = leb-false 13 kind (test c 1)
+  node-known : kind < kindCount
+  node-known = leb-false kindCount kind (test c 1)
 
   node-items : items x ≡ is
   node-items = same-items kind (length (x .values) - 1) count node-known (λ e. omega (arith, length-values is s, length-call kind count e))
@@ -65,12 +65,12 @@ module _ (t : Table) (kind : ℕ) (s : List ℕ) (b : Bytes s) (c : Clear (nodeR
   node-fits =
       let child-taken = takenBy (named t) (numbers child x) in
       let slot-taken = takenBy (allNumbers slot (t .nodes)) (numbers slot x) in
-      let w = either (child-taken || slot-taken) _ (test c 7) in
-      let v = either child-taken slot-taken (w .0) in
-      let far = either (beyond (length (t .nodes)) (numbers child x)) _ (test c 6) in
+      let w = neither (child-taken || slot-taken) _ (test c 7) in
+      let v = neither child-taken slot-taken (w .0) in
+      let far = neither (beyond (length (t .nodes)) (numbers child x)) _ (test c 6) in
       record {
         own = record {
-          room = leb-false 256 (length (t .nodes)) (test c 0);
+          room = leb-false nodeLimit (length (t .nodes)) (test c 0);
           known = node-known;
           ranges = rw node-items (inside-range is s (test c 5));
           arguments = λ e. rw (first-value kind count s e) (omega (arith, length-values is s, length-call kind count e));
@@ -94,15 +94,15 @@ module _ (t : Table) (y : Node) (f : Fits t (node y)) where
   pub fits-node : Clear (nodeRows t (y .kind) (bodyOf y))
   fits-node =
       lt-leb nodeLimit (length (t .nodes)) (f .own .room)
-      & lt-leb 13 (y .kind) (f .own .known)
-      & notBoth (isCall (y .kind)) _ (λ c. ne-eqb (length (bodyOf y)) 0 (λ z. omega (arith, call c .some)))
-      & notBoth (isCall (y .kind)) _ (λ c. lt-leb (length (t .definitions)) (getD (bodyOf y) 0 0) (rw (call c .first) (f .given .1 _ (call c .names))))
+      & lt-leb kindCount (y .kind) (f .own .known)
+      & and-fails (isCall (y .kind)) _ (λ c. ne-eqb (length (bodyOf y)) 0 (λ z. omega (arith, call c .some)))
+      & and-fails (isCall (y .kind)) _ (λ c. lt-leb (length (t .definitions)) (getD (bodyOf y) 0 0) (rw (call c .first) (f .given .1 _ (call c .names))))
       & ap not (eq-eqb (length (bodyOf y)) _ (length-items (f .own .ranges) ∙ ap size (sym read-items)))
       & subst (λ (js : List Item). outside js (valuesIn js (bodyOf y)) ≡ false) (sym read-items)
       (rw (values-of (f .own .ranges)) (range-inside (f .own .ranges)))
-      & subst (λ (z : Node). misplaced t z ≡ false) (sym node-read) (neither (mem-beyond _ _ (f .given .0)) (mem-beyond _ _ (f .given .1)))
+      & subst (λ (z : Node). misplaced t z ≡ false) (sym node-read) (or-fails (mem-beyond _ _ (f .given .0)) (mem-beyond _ _ (f .given .1)))
       & subst (λ (z : Node). retaken t z ≡ false) (sym node-read)
-      (neither (neither (fresh-taken _ _ (f .fresh)) (fresh-taken _ _ (f .slots))) (fresh-taken _ _ (f .kept)))
+      (or-fails (or-fails (fresh-taken _ _ (f .fresh)) (fresh-taken _ _ (f .slots))) (fresh-taken _ _ (f .kept)))
       & done
     where
       call : isCall (y .kind) ≡ true → Leads (items y) (y .values)

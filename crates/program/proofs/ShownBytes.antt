@@ -1,9 +1,9 @@
 -- The bytes of a program from its parts, as the conditions have them, by computation. Assumes nothing.
 use mathlib.Core.Path.{_≡_, refl}
-use mathlib.Core.List.{List, [], _∷_, _++_, map}
+use mathlib.Core.List.{List, [], _∷_, map}
 use Prim.Native.Nat.{ℕ}
-use lib.ListN.{length, replicate, take}
-use Rattle.program.specs.Table.{Item, constant, operator, parameter, variable, keeps, slot, child, definition, items, picked, Node, Definition, Loaded, load}
+use lib.ListN.{replicate, take}
+use Rattle.program.specs.Table.{Item, constant, operator, parameter, variable, keeps, slot, child, definition, items, picked, Node, Definition, load}
 use Rattle.program.specs.Conditions.{Part, node, define, fieldBytes, itemBytes, itemsBytes, partBytes, programBytes, nodesOf, definitionsOf, tableOf, howOften}
 use Rattle.program.proofs.Shown.{opened}
 

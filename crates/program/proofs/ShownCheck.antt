@@ -1,9 +1,8 @@
 -- The refusals 7, 8 and 9 of whole programs with their places, and the order of these rows, by computation. Assumes nothing.
 use mathlib.Core.Path.{_≡_, refl}
 use mathlib.Core.List.{List, [], _∷_, _++_, map}
-use mathlib.Core.Option.{Option, none, some}
+use mathlib.Core.Option.{none, some}
 use Prim.Native.Nat.{ℕ}
-use lib.ListN.{replicate}
 use Rattle.program.specs.Check.{lowest, check}
 use Rattle.program.proofs.Shown.{opened, node, define, main, number}
 

@@ -1,6 +1,6 @@
 -- "Main may cost 1,000,000.": a program of just that cost and one of one more, by computation. Assumes nothing.
 use mathlib.Core.Path.{_≡_, refl}
-use mathlib.Core.List.{List, [], _∷_, _++_, map}
+use mathlib.Core.List.{List, [], _∷_, _++_}
 use Prim.Native.Nat.{ℕ, zero, suc, _+_, _-_}
 use Rattle.program.specs.Check.{check}
 use Rattle.program.proofs.Shown.{opened, node, define, main, number}

@@ -3,7 +3,6 @@ use mathlib.Core.Path.{_≡_, refl}
 use mathlib.Core.List.{List, [], _∷_, _++_, map}
 use Prim.Native.Nat.{ℕ, _-_}
 use lib.ListN.{length, take, replicate}
-use Rattle.program.specs.Check.{Verdict}
 use Rattle.program.proofs.Shown.{opened, node, behind, pass}
 
 -- "Node bodies begin with a kind byte, then one byte each except the constant", calls with two, no and four arguments

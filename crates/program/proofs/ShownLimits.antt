@@ -4,7 +4,7 @@ use mathlib.Core.List.{List, [], _∷_, _++_, map}
 use Prim.Native.Nat.{ℕ, zero, suc}
 use lib.ListN.{replicate}
 use Rattle.wire.specs.Wire.{fieldsOf}
-use Rattle.program.specs.Table.{Table, firstOf, nodeRows, definitionRows, mainRows, Loaded, loadFrom}
+use Rattle.program.specs.Table.{Table, firstOf, nodeRows, definitionRows, mainRows, loadFrom}
 use Rattle.program.specs.Check.{check}
 use Rattle.program.proofs.Shown.{opened, field, node, define, pass}
 

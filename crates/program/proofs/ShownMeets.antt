@@ -4,8 +4,8 @@ use mathlib.Core.List.{List, [], _∷_, _++_, List·Memᴰ·head}
 use Prim.Native.Nat.{ℕ, _<_, _≤_}
 use native.Mathlib.Omega.{arith}
 use lib.ListN.{replicate}
-use Rattle.program.specs.Table.{Item, Table, constant, operator, parameter, variable, keeps, slot, child, definition}
-use Rattle.program.specs.Tree.{Expr, sense, range}
+use Rattle.program.specs.Table.{Table, constant, operator, parameter, variable, keeps, slot, definition}
+use Rattle.program.specs.Tree.{sense, range}
 use Rattle.program.specs.Sorts.{Sort, aNumber, HasSort, T-sense}
 use Rattle.program.specs.Scope.{Scoped, S-parameter}
 use Rattle.program.specs.Spatial.{X-rep}

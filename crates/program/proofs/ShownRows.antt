@@ -1,7 +1,6 @@
 -- The field rows of the refusal table in their order, definitions, the main node, the table's end and the place, by computation. Assumes nothing.
 use mathlib.Core.Path.{_≡_, refl}
-use mathlib.Core.List.{List, [], _∷_, _++_, map}
-use Prim.Native.Nat.{ℕ, zero, suc}
+use mathlib.Core.List.{[], _∷_, _++_, map}
 use lib.ListN.{replicate}
 use Rattle.program.specs.Check.{check}
 use Rattle.program.proofs.Shown.{opened, field, node, define, main, number, behind, pass}

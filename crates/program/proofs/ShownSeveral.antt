@@ -1,13 +1,13 @@
 -- What holds of one definition, slot, variable, node or operator holds of the second, the third and each of them, by computation. Assumes nothing.
 use mathlib.Core.Path.{_≡_, refl}
-use mathlib.Core.Bool.{Bool, true, false}
+use mathlib.Core.Bool.{true, false}
 use mathlib.Core.List.{List, [], _∷_, _++_, map, List·Memᴰ·head}
 use Prim.Native.Nat.{ℕ}
 use lib.ListN.{replicate}
 use lib.IntN.{pos}
 use Rattle.number.specs.Number.{Operator, add, sub, mul, div, lt, gt, ge, eq, ne}
-use Rattle.program.specs.Tree.{Expr, nothing, constant, parameter, variable, operator, sense, rep, branch, mux, nbr, range, foldOp, foldDef, call, isField, sortBroken, misread, spatial, cost}
-use Rattle.program.specs.Sorts.{aField, HasSort, T-constant, T-fieldLeft, T-fieldRight, T-nbr, T-range}
+use Rattle.program.specs.Tree.{Expr, constant, parameter, variable, operator, sense, rep, branch, mux, nbr, range, foldOp, foldDef, call, isField, sortBroken, misread, spatial, cost}
+use Rattle.program.specs.Sorts.{aField, HasSort, T-constant, T-fieldLeft, T-nbr, T-range}
 use Rattle.program.specs.Spatial.{Spatial, X-rep, X-left, X-range}
 use Rattle.program.specs.Scope.{Scoped, S-variable, S-operator}
 use Rattle.program.specs.Check.{check}

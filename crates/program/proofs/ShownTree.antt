@@ -1,8 +1,8 @@
 -- The tree of each kind of node, from the bytes of a program, by computation. Assumes nothing.
 use mathlib.Core.Path.{_≡_, refl}
-use mathlib.Core.List.{List, [], _∷_, _++_, map}
+use mathlib.Core.List.{[], _∷_, _++_, map}
 use Prim.Native.Nat.{ℕ}
-use lib.IntN.{ℤ, pos, negℤ}
+use lib.IntN.{pos, negℤ}
 use Rattle.number.specs.Number.{inf, floor, mark, add, sub, mul, div, lt, gt, ge, eq, ne}
 use Rattle.program.specs.Table.{Table}
 use Rattle.program.specs.Tree.{Expr, nothing, constant, parameter, variable, operator, sense, rep, branch, mux, nbr, range, foldOp, foldDef, call, signed, trees, tree}

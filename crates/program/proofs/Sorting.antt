@@ -7,7 +7,7 @@ use Rattle.number.specs.Number.{Operator}
 use Rattle.program.specs.Tree.{Expr, operator, sense, rep, branch, mux, nbr, foldOp, foldDef, call, isField, sortBroken}
 use Rattle.program.specs.Sorts.{Sort, aNumber, aField, HasSort, T-nothing, T-constant, T-parameter, T-variable, T-numbers, T-fieldLeft, T-fieldRight, T-sense}
 use Rattle.program.specs.Sorts.{T-rep, T-branch, T-mux, T-nbr, T-range, T-foldOp, T-foldDef, T-call}
-use Rattle.program.proofs.Tests.{either, neither}
+use Rattle.decide.proofs.Picks.{neither, or-fails}
 
 abbrev pub isIt : Sort → Bool
 isIt aNumber = false
@@ -20,7 +20,7 @@ field-of T-nothing = refl
 field-of T-constant = refl
 field-of T-parameter = refl
 field-of T-variable = refl
-field-of (T-numbers h k) = neither (field-of h) (field-of k)
+field-of (T-numbers h k) = or-fails (field-of h) (field-of k)
 field-of (T-fieldLeft h k) = rw (field-of h)
 field-of (T-fieldRight {l = l} h k) = rw (field-of k) (or-true (isField l))
 field-of (T-sense h) = refl
@@ -43,18 +43,18 @@ unbroken (T-numbers h k) = refl
 unbroken (T-fieldLeft h k) = refl
 unbroken (T-fieldRight h k) = refl
 unbroken (T-sense h) = field-of h
-unbroken (T-rep h k) = neither (field-of h) (field-of k)
+unbroken (T-rep h k) = or-fails (field-of h) (field-of k)
 unbroken (T-branch {k = s} c h k) = rw (field-of c, field-of h, field-of k) (same s)
   where
     same : (s : Sort) → not (cond (isIt s) (isIt s) (not (isIt s))) ≡ false
     same aNumber = refl
     same aField = refl
-unbroken (T-mux c h k) = neither (neither (field-of c) (field-of h)) (field-of k)
+unbroken (T-mux c h k) = or-fails (or-fails (field-of c) (field-of h)) (field-of k)
 unbroken (T-nbr h) = field-of h
 unbroken T-range = refl
 unbroken (T-foldOp h k) = rw (field-of h, field-of k)
 unbroken (T-foldDef d h k) = rw (field-of h, field-of k)
-unbroken (T-call d h k l m) = neither (neither (neither (field-of h) (field-of k)) (field-of l)) (field-of m)
+unbroken (T-call d h k l m) = or-fails (or-fails (or-fails (field-of h) (field-of k)) (field-of l)) (field-of m)
 
 -- the other way, node by node: its parts have sorts, and its own test passes
 abbrev pub Sorted : Expr → Type 0
@@ -76,7 +76,7 @@ sort-operator n o (aField, h) (s, k) = (aField, T-fieldLeft h k)
 pub sort-branch : {c a b : Expr} → Sorted c → Sorted a → Sorted b → sortBroken (branch c a b) ≡ false → Sorted (branch c a b)
 unfolding sortBroken
 sort-branch {c} {a} {b} s (j, h) (k, l) q =
-    let w = either (isField c) _ q in
+    let w = neither (isField c) _ q in
     go j k h l (as-number c s (w .0)) (rw (field-of h, field-of l) at (w .1))
   where
     go : (j k : Sort) → HasSort a j → HasSort b k → HasSort c aNumber → not (cond (isIt j) (isIt k) (not (isIt k))) ≡ false → Sorted (branch c a b)
@@ -87,10 +87,10 @@ sort-branch {c} {a} {b} s (j, h) (k, l) q =
 
 module _ (i f : Expr) (si : Sorted i) (sf : Sorted f) (q : (isField i || not (isField f)) ≡ false) where
   initial-number : HasSort i aNumber
-  initial-number = as-number i si (either (isField i) (not (isField f)) q .0)
+  initial-number = as-number i si (neither (isField i) (not (isField f)) q .0)
 
   third-field : HasSort f aField
-  third-field = as-field f sf (not-false (isField f) (either (isField i) (not (isField f)) q .1))
+  third-field = as-field f sf (not-false (isField f) (neither (isField i) (not (isField f)) q .1))
 
 pub sort-sense : {e : Expr} → Sorted e → sortBroken (sense e) ≡ false → Sorted (sense e)
 unfolding sortBroken
@@ -102,13 +102,13 @@ sort-nbr i s q = (aField, T-nbr (as-number _ s q))
 
 pub sort-rep : (v : ℕ) {i u : Expr} → Sorted i → Sorted u → sortBroken (rep v i u) ≡ false → Sorted (rep v i u)
 unfolding sortBroken
-sort-rep v {i} {u} s t q = let w = either (isField i) (isField u) q in (aNumber, T-rep (as-number i s (w .0)) (as-number u t (w .1)))
+sort-rep v {i} {u} s t q = let w = neither (isField i) (isField u) q in (aNumber, T-rep (as-number i s (w .0)) (as-number u t (w .1)))
 
 pub sort-mux : {c a b : Expr} → Sorted c → Sorted a → Sorted b → sortBroken (mux c a b) ≡ false → Sorted (mux c a b)
 unfolding sortBroken
 sort-mux {c} {a} {b} s t u q =
-    let w = either (isField c || isField a) (isField b) q in
-    let x = either (isField c) (isField a) (w .0) in
+    let w = neither (isField c || isField a) (isField b) q in
+    let x = neither (isField c) (isField a) (w .0) in
     (aNumber, T-mux (as-number c s (x .0)) (as-number a t (x .1)) (as-number b u (w .1)))
 
 pub sort-foldOp : (n : ℕ) (o : Operator) {i f : Expr} → Sorted i → Sorted f → sortBroken (foldOp n o i f) ≡ false → Sorted (foldOp n o i f)
@@ -123,7 +123,7 @@ pub sort-call : {d a b c e : Expr} → HasSort d aNumber → Sorted a → Sorted
     → sortBroken (call d a b c e) ≡ false → Sorted (call d a b c e)
 unfolding sortBroken
 sort-call {d} {a} {b} {c} {e} h s t u v q =
-    let w = either (isField a || isField b || isField c) (isField e) q in
-    let x = either (isField a || isField b) (isField c) (w .0) in
-    let y = either (isField a) (isField b) (x .0) in
+    let w = neither (isField a || isField b || isField c) (isField e) q in
+    let x = neither (isField a || isField b) (isField c) (w .0) in
+    let y = neither (isField a) (isField b) (x .0) in
     (aNumber, T-call h (as-number a s (y .0)) (as-number b t (y .1)) (as-number c u (x .1)) (as-number e v (w .1)))

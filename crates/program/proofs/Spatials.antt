@@ -1,22 +1,11 @@
 -- The test for spatial trees holds exactly of those that the rules make spatial.
-use mathlib.Core.Path.{_≡_, refl, sym, _∙_}
-use mathlib.Core.Logic.{⊎-elim, _⊎_, inl, inr}
+use mathlib.Core.Path.{_≡_, refl, sym}
+use mathlib.Core.Logic.{⊎-elim}
 use mathlib.Core.Bool.{Bool, true, false, _||_, true≢false}
 use Rattle.program.specs.Tree.{Expr, nothing, constant, parameter, variable, operator, sense, rep, branch, mux, nbr, range, foldOp, foldDef, call, spatial}
 use Rattle.program.specs.Spatial.{Spatial, X-rep, X-nbr, X-range, X-called, X-left, X-right, X-sense, X-ifCondition, X-ifThen, X-ifElse, X-muxCondition, X-muxThen}
 use Rattle.program.specs.Spatial.{X-muxElse, X-foldInitial, X-foldField, X-foldByInitial, X-foldByField, X-first, X-second, X-third, X-fourth}
-use Rattle.program.proofs.Tests.{known, never}
-
-one-of : (a b : Bool) → (a || b) ≡ true → (a ≡ true) ⊎ (b ≡ true)
-one-of true b q = inl refl
-one-of false b q = inr q
-
-by-first : {a : Bool} (b : Bool) → a ≡ true → (a || b) ≡ true
-by-first b p = rw p
-
-by-rest : (a : Bool) {b : Bool} → b ≡ true → (a || b) ≡ true
-by-rest true p = refl
-by-rest false p = p
+use Rattle.decide.proofs.Picks.{known, never, one-of, by-first, by-rest}
 
 -- of tests joined by or, each with what it tells
 either-of : {A : Type 0} (a b : Bool) → (a ≡ true → A) → (b ≡ true → A) → (a || b) ≡ true → A

@@ -3,8 +3,8 @@ use mathlib.Core.Path.{_≡_, sym, _∙_, ap}
 use mathlib.Core.List.{List, [], _∷_, _++_, append-assoc, append-nil}
 use Prim.Native.Nat.{ℕ, _+_, _≤_, _<_}
 use lib.ListN.{length, getD}
-use Rattle.program.specs.Table.{Item, slot, keeps, child, kindCount, items, Node, Definition, Table, numbers, allNumbers, named, definitionAt, withNode}
-use Rattle.program.specs.Conditions.{Part, node, define, nodesOf, definitionsOf, Given, InRange, howOften}
+use Rattle.program.specs.Table.{nodeLimit, Item, slot, keeps, child, kindCount, items, Node, Definition, Table, numbers, allNumbers, named, definitionAt, withNode}
+use Rattle.program.specs.Conditions.{Part, node, define, nodesOf, definitionsOf, GivenBefore, InRange, howOften}
 use Rattle.program.proofs.Names.{Fresh}
 
 abbrev pub grow : Table → Part → Table
@@ -38,7 +38,7 @@ only j (node x) = numbers j x
 only j (define d) = []
 
 pub record NodeFits (t : Table) (x : Node) : Type 0 where
-  pub room : length (t .nodes) < 256
+  pub room : length (t .nodes) < nodeLimit
   pub known : x .kind < kindCount
   pub ranges : InRange (items x) (x .values)
   pub arguments : x .kind ≡ 12 → length (x .values) ≡ 1 + definitionAt t (getD (x .values) 0 0) .count
@@ -53,7 +53,7 @@ Own t (define d) = DefinitionFits t d
 
 pub record Fits (t : Table) (p : Part) : Type 0 where
   pub own : Own t p
-  pub given : Given t p
+  pub given : GivenBefore t p
   pub fresh : Fresh (named t) (children p)
   pub slots : Fresh (allNumbers slot (t .nodes)) (only slot p)
   pub kept : Fresh (allNumbers keeps (t .nodes)) (only keeps p)

@@ -13,7 +13,7 @@ use Rattle.program.specs.Table.{Node, Table, definitionAt, isCall}
 use Rattle.program.specs.Tree.{tree, spatial}
 use Rattle.program.specs.Check.{noNode, nodeAt, called, useOffends}
 use Rattle.program.specs.Conditions.{Calls, FoldsBy}
-use Rattle.program.proofs.Tests.{never, known, either, neither, second, notBoth}
+use Rattle.decide.proofs.Picks.{never, known, neither, or-fails, and-second, and-fails}
 
 -- the number of the definition that a node names, if it does
 abbrev value : Node → ℕ
@@ -51,7 +51,7 @@ module _ (t : Table) where
 
   uses : (n : ℕ) → useOffends t n ≡ false → (repeats (nodeAt t n) n ≡ false) × (misfolds (nodeAt t n) ≡ false)
   unfolding useOffends
-  uses n q = either (repeats (nodeAt t n) n) (misfolds (nodeAt t n)) q
+  uses n q = neither (repeats (nodeAt t n) n) (misfolds (nodeAt t n)) q
 
   -- a node that passes calls no spatial definition that one before it calls
   no-earlier : (m n d : ℕ) → m < n → n < length (t .nodes) → useOffends t n ≡ false → Calls t m d → Calls t n d → isSpatial d ≡ true → ⊥
@@ -60,8 +60,8 @@ module _ (t : Table) where
       let g = getD-take n (t .nodes) m noNode h in
       let c : called d (take n (t .nodes)) ≡ true =
       called-true d (take n (t .nodes)) m (omega (arith, length-take-le n (t .nodes) (omega arith))) (rw g (a .0)) (rw g (a .1)) in
-      let o = second (isCall (x .kind)) (isSpatial (value x) && called (value x) (take n (t .nodes))) (uses n q .0) (eq-eqb _ 12 (b .0)) in
-      let r : called (value x) (take n (t .nodes)) ≡ false = second _ _ o (subst (λ (k : ℕ). isSpatial k ≡ true) (sym (b .1)) s) in
+      let o = and-second (isCall (x .kind)) (isSpatial (value x) && called (value x) (take n (t .nodes))) (uses n q .0) (eq-eqb _ 12 (b .0)) in
+      let r : called (value x) (take n (t .nodes)) ≡ false = and-second _ _ o (subst (λ (k : ℕ). isSpatial k ≡ true) (sym (b .1)) s) in
       never c (subst (λ (k : ℕ). called k (take n (t .nodes)) ≡ false) (b .1) r)
 
   pub called-once : ((n : ℕ) → n < length (t .nodes) → useOffends t n ≡ false)
@@ -76,8 +76,8 @@ module _ (t : Table) where
   pub fold-plain : (n d : ℕ) → useOffends t n ≡ false → FoldsBy t n d → (isSpatial d ≡ false) × (definitionAt t d .count ≡ 2)
   fold-plain n d q (k, e) =
       let c : ℕ = value (nodeAt t n) in
-      let o = second (eqb (nodeAt t n .kind) 11) (isSpatial c || not (eqb (definitionAt t c .count) 2)) (uses n q .1) (eq-eqb _ 11 k) in
-      let r = either (isSpatial c) (not (eqb (definitionAt t c .count) 2)) o in
+      let o = and-second (eqb (nodeAt t n .kind) 11) (isSpatial c || not (eqb (definitionAt t c .count) 2)) (uses n q .1) (eq-eqb _ 11 k) in
+      let r = neither (isSpatial c) (not (eqb (definitionAt t c .count) 2)) o in
       subst (λ (i : ℕ). (isSpatial i ≡ false) × (definitionAt t i .count ≡ 2)) e (r .0, eqb-true _ 2 (not-false _ (r .1)))
 
   pub no-offence : ((m n d : ℕ) → m < length (t .nodes) → n < length (t .nodes) → Calls t m d → Calls t n d → isSpatial d ≡ true → m ≡ n)
@@ -86,8 +86,8 @@ module _ (t : Table) where
   unfolding useOffends
   no-offence once fold n h =
       let d : ℕ = value (nodeAt t n) in
-      neither (notBoth (isCall (nodeAt t n .kind)) _ (λ k. notBoth (isSpatial d) _ (λ s. go k s (known (called d (take n (t .nodes)))))))
-      (notBoth (eqb (nodeAt t n .kind) 11) _ (λ k. let f = fold n d h (eqb-true _ 11 k, refl) in neither (f .0) (ap not (eq-eqb _ 2 (f .1)))))
+      or-fails (and-fails (isCall (nodeAt t n .kind)) _ (λ k. and-fails (isSpatial d) _ (λ s. go k s (known (called d (take n (t .nodes)))))))
+      (and-fails (eqb (nodeAt t n .kind) 11) _ (λ k. let f = fold n d h (eqb-true _ 11 k, refl) in or-fails (f .0) (ap not (eq-eqb _ 2 (f .1)))))
     where
       go : isCall (nodeAt t n .kind) ≡ true → isSpatial (value (nodeAt t n)) ≡ true
           → (called (value (nodeAt t n)) (take n (t .nodes)) ≡ true) ⊎ (called (value (nodeAt t n)) (take n (t .nodes)) ≡ false)

@@ -4,7 +4,7 @@ use mathlib.Core.List.{List, [], _∷_, _++_}
 use mathlib.Core.Option.{Option, none, some}
 use Prim.Native.Nat.{ℕ, zero, suc, _+_, min}
 use lib.ListN.{length, getD, take}
-use lib.Dec.{eqb, leb, ltb}
+use lib.Dec.{eqb, ltb}
 use Rattle.program.specs.Table.{Node, Definition, Table, load, among, bodies, definitionAt, isCall}
 use Rattle.program.specs.Tree.{Expr, tree, isField, sortBroken, misread, spatial, cost}
 

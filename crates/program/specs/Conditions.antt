@@ -82,11 +82,11 @@ pub data InRange : List Item → List ℕ → Type 0 where
   more : {i : Item} {is : List Item} {v : ℕ} {vs : List ℕ} → Ranged i v → InRange is vs → InRange (i ∷ is) (v ∷ vs)
 
 -- "A node or definition must be given before it is named": by a part that stands behind the table t
-abbrev pub Given : Table → Part → Type 0
-Given t (node x) =
+abbrev pub GivenBefore : Table → Part → Type 0
+GivenBefore t (node x) =
     ((k : ℕ) → List·Memᴰ k (numbers child x) → k < length (t .nodes))
     × ((d : ℕ) → List·Memᴰ d (numbers definition x) → d < length (t .definitions))
-Given t (define d) = d .body < length (t .nodes)
+GivenBefore t (define d) = d .body < length (t .nodes)
 
 -- node n calls definition d; folds by it
 abbrev pub Calls : Table → ℕ → ℕ → Type 0
@@ -107,7 +107,7 @@ pub record Meets (ps : List Part) (main : ℕ) : Type 0 where
   -- a call gives each parameter of its definition an argument
   pub arguments : (x : Node) → List·Memᴰ x (nodesOf ps) → x .kind ≡ 12 → length (x .values) ≡ 1 + definitionAt (tableOf ps) (getD (x .values) 0 0) .count
   -- "A node or definition must be given before it is named."
-  pub given : (before after : List Part) (p : Part) → ps ≡ before ++ p ∷ after → Given (tableOf before) p
+  pub given : (before after : List Part) (p : Part) → ps ≡ before ++ p ∷ after → GivenBefore (tableOf before) p
   pub mainGiven : main < length (nodesOf ps)
   -- "Each node is named exactly once"
   pub namedOnce : (k : ℕ) → k < length (nodesOf ps) → howOften k (main ∷ named (tableOf ps)) ≡ 1

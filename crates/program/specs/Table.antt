@@ -7,10 +7,10 @@ use lib.Dec.{eqb, leb, ltb}
 use Rattle.wire.specs.Wire.{Fields, end, cut, whole, big, fieldsOf}
 
 -- the number of the first row that holds, 0 where none does
-abbrev pub Rows : Type 0
-Rows = List (Bool × ℕ)
+abbrev pub RefusalRows : Type 0
+RefusalRows = List (Bool × ℕ)
 
-unfoldable pub firstOf : Rows → ℕ
+unfoldable pub firstOf : RefusalRows → ℕ
 firstOf [] = 0
 firstOf (row ∷ rows) = cond (row .0) (row .1) (firstOf rows)
 
@@ -162,7 +162,7 @@ abbrev pub nodeOf : Table → ℕ → List ℕ → Node
 nodeOf t kind s = record { kind = kind; values = valuesIn (itemsOf kind (definitionAt t (getD s 0 0) .count)) s }
 
 -- the field rows of the refusal table, in order, for a node's body
-abbrev pub nodeRows : Table → ℕ → List ℕ → Rows
+abbrev pub nodeRows : Table → ℕ → List ℕ → RefusalRows
 nodeRows t kind s =
     let is : List Item = itemsOf kind (definitionAt t (getD s 0 0) .count) in
     let x : Node = nodeOf t kind s in
@@ -183,7 +183,7 @@ nodeRows t kind s =
     ∷ []
 
 -- for a definition's body: parameter count, body node
-abbrev pub definitionRows : Table → List ℕ → Rows
+abbrev pub definitionRows : Table → List ℕ → RefusalRows
 definitionRows t s =
     -- "33rd definition"
     (leb definitionLimit (length (t .definitions)), 2)
@@ -194,7 +194,7 @@ definitionRows t s =
     ∷ []
 
 -- for the main node
-abbrev pub mainRows : Table → List ℕ → Rows
+abbrev pub mainRows : Table → List ℕ → RefusalRows
 mainRows t s =
     (not (eqb (length s) 1), 1)
     ∷ (leb (length (t .nodes)) (getD s 0 0), 4)
@@ -212,7 +212,7 @@ abbrev pub refused : ℕ → ℕ → Loaded
 refused number place = record { number = number; place = place; table = record { nodes = []; definitions = [] }; main = 0 }
 
 -- go on where no row holds, else the refusal at its place
-abbrev pub unless : Rows → ℕ → Loaded → Loaded
+abbrev pub unless : RefusalRows → ℕ → Loaded → Loaded
 unless rows place next = cond (eqb (firstOf rows) 0) next (refused (firstOf rows) place)
 
 -- some node below k is not among those named
@@ -238,19 +238,19 @@ abbrev pub withDefinition : Table → List ℕ → Table
 withDefinition t s = record { nodes = t .nodes; definitions = t .definitions ++ record { count = getD s 0 0; body = getD s 1 0 } ∷ [] }
 
 -- what a field's tag and body begin with
-pub data Entry : Type 0 where
-  aNode : ℕ → List ℕ → Entry
-  aDefinition : List ℕ → Entry
-  aMain : List ℕ → Entry
-  unknown : Entry
+pub data TableEntry : Type 0 where
+  aNode : ℕ → List ℕ → TableEntry
+  aDefinition : List ℕ → TableEntry
+  aMain : List ℕ → TableEntry
+  unknown : TableEntry
 
 -- "Tag 1 is a node", with a kind byte; "Tag 2 is a definition"; "Tag 3, one node byte, is the main node"
-unfoldable pub entryOf : ℕ → List ℕ → Entry
+unfoldable pub entryOf : ℕ → List ℕ → TableEntry
 entryOf tag [] = cond (eqb tag 2) (aDefinition []) (cond (eqb tag 3) (aMain []) unknown)
 entryOf tag (b ∷ s) = cond (eqb tag 1) (aNode b s) (cond (eqb tag 2) (aDefinition (b ∷ s)) (cond (eqb tag 3) (aMain (b ∷ s)) unknown))
 
 -- the fields one after the other; place counts the whole fields before
-abbrev pub onEntry : ℕ → Table → Entry → Fields → (Table → Loaded) → Loaded
+abbrev pub onEntry : ℕ → Table → TableEntry → Fields → (Table → Loaded) → Loaded
 onEntry place t (aNode kind s) rest go = unless (nodeRows t kind s) place (go (withNode t (nodeOf t kind s)))
 onEntry place t (aDefinition s) rest go = unless (definitionRows t s) place (go (withDefinition t s))
 onEntry place t (aMain s) rest go = unless (mainRows t s) place (ended t (getD s 0 0) rest)

@@ -23,7 +23,7 @@ use Rattle.load.specs.declared.Table.{Table}
 use Rattle.load.specs.Loads.{tableOf, nodeAt}
 use Rattle.load.proofs.Shown.{shown-nodes, shown-node, shown-definitions, shown-definition}
 use Rattle.pack.specs.Packs.{kindOf, itemOf, Column}
-use Rattle.program_check.specs.Rows.{Above, Packed, InColumns}
+use Rattle.program_check.specs.TreeRows.{Above, Packed, InColumns}
 
 -- the first value of a node of a kind that has an item first
 value-of : (x : Node) (m : ℕ) → x .kind ≡ m → getD (headOf (leadOf m) (x .item) (x .constant) ++ childrenOf x) 0 0 ≡ x .item → getD (nodeOf x .values) 0 0 ≡ x .item

@@ -17,7 +17,7 @@ use Rattle.program.specs.Table.{among, bodies, nodeLimit}
 use Rattle.program.specs.Tree.{Expr, tree, isField, sortBroken, cost}
 use Rattle.program.specs.Check as checked
 use Rattle.program.specs.Check.{lowest, offending, sortOffends, useOffends, orElse, treeRows, check}
-use Rattle.program.proofs.Tests.{either, second}
+use Rattle.decide.proofs.Picks.{neither, and-second}
 use Rattle.program.proofs.Offending.{rows-pass}
 use Rattle.round.specs.Round.{reps}
 use Rattle.words.specs.Word.{form, word}
@@ -33,7 +33,7 @@ use Rattle.load.specs.declared.Outcome.{Outcome}
 use Rattle.load.specs.Loads.{tableOf, Good, Loads}
 use Rattle.load.proofs.Shown.{shown-nodes}
 use Rattle.pack.specs.Packs.{Packs}
-use Rattle.program_check.specs.Rows.{misreads, Packed, Rows}
+use Rattle.program_check.specs.TreeRows.{misreads, Packed, TreeRows}
 use Rattle.program_check.specs.Prepares.{Accepted, Checks, Ready}
 
 -- a row that refuses, and one that does not
@@ -44,7 +44,7 @@ passed : {o : Option ℕ} {r : ℕ} (number : ℕ) (next : checked.Verdict) → 
 passed {o} {r} number next e l = rw (e, le-ltb r nodeLimit l)
 
 refusal : {v : Verdict} {number place : ℕ} {t : Table} {ws : List ℕ} → pair v ≡ (number, place) → 0 < number
-    → treeRows (tableOf t) (t .main) ≡ (number, place) → Rows t ws v
+    → treeRows (tableOf t) (t .main) ≡ (number, place) → TreeRows t ws v
 refusal {v} {number} e h q =
     let z : v .number ≡ number = ap (λ (x : checked.Verdict). x .0) e in
     record { verdict = e ∙ sym q; runs = λ n. absurd (omega arith) }
@@ -53,24 +53,24 @@ refusal {v} {number} e h q =
 main-number : (t : program.Table) (main : ℕ) → sortOffends t main main ≡ false → isField (tree t main) ≡ false
 unfolding sortOffends among
 main-number t main e =
-    second (among main (main ∷ bodies (t .definitions))) (isField (tree t main)) (either (sortBroken (tree t main)) _ e .1)
+    and-second (among main (main ∷ bodies (t .definitions))) (isField (tree t main)) (neither (sortBroken (tree t main)) _ e .1)
     (rw (eq-eqb main main refl))
 
 module _ {t : Table} {ws : List ℕ} {r : ℕ} (g : Good t) (given : t .main < t .n) (p : Packs t ws r) where
   pub packed : Packed t ws
   packed = record { good = g; given = given; long = p .long; formed = p .formed; trees = p .trees; empty = record { rest = p .rest } }
 
-  pub sort-row : {v : Verdict} → pair v ≡ (7, r) → r < nodeLimit → Rows t ws v
+  pub sort-row : {v : Verdict} → pair v ≡ (7, r) → r < nodeLimit → TreeRows t ws v
   unfolding treeRows
   sort-row e l = refusal e (omega arith) (row 7 _ (p .place) l)
 
   module _ (l : nodeLimit ≤ r) {m : ℕ} (a : lowest (misreads (tableOf t) (t .main)) ≡ found m) where
-    pub scope-row : {v : Verdict} → pair v ≡ (8, m) → m < nodeLimit → Rows t ws v
+    pub scope-row : {v : Verdict} → pair v ≡ (8, m) → m < nodeLimit → TreeRows t ws v
     unfolding treeRows
     scope-row e h = refusal e (omega arith) (passed 7 _ (p .place) l ∙ row 8 _ a h)
 
     module _ (h : nodeLimit ≤ m) {u : ℕ} (b : lowest (offending (useOffends (tableOf t)) (length (tableOf t .nodes))) ≡ found u) where
-      pub use-row : {v : Verdict} → pair v ≡ (9, u) → u < nodeLimit → Rows t ws v
+      pub use-row : {v : Verdict} → pair v ≡ (9, u) → u < nodeLimit → TreeRows t ws v
       unfolding treeRows
       use-row e k = refusal e (omega arith) (passed 7 _ (p .place) l ∙ passed 8 _ a h ∙ row 9 _ b k)
 
@@ -82,12 +82,12 @@ module _ {t : Table} {ws : List ℕ} {r : ℕ} (g : Good t) (given : t .main < t
         unfolding treeRows
         rest = passed 7 _ (p .place) l ∙ passed 8 _ a h ∙ passed 9 _ b k
 
-        pub cost-row : {v : Verdict} → pair v ≡ (10, 0) → 1000000 < c → Rows t ws v
+        pub cost-row : {v : Verdict} → pair v ≡ (10, 0) → 1000000 < c → TreeRows t ws v
         cost-row e q =
             let z : 1000000 < cost (tree (tableOf t) (t .main)) = omega (arith, same-cost, min-le-left (cost (tree (tableOf t) (t .main))) 1000001) in
             refusal e (omega arith) (rest ∙ rw (lt-ltb 1000000 (cost (tree (tableOf t) (t .main))) z))
 
-        pub accepts : {v : Verdict} → pair v ≡ (0, 0) → c ≤ 1000000 → Rows t ws v
+        pub accepts : {v : Verdict} → pair v ≡ (0, 0) → c ≤ 1000000 → TreeRows t ws v
         accepts e q =
             let z : cost (tree (tableOf t) (t .main)) ≤ 1000000 = omega (arith, same-cost) in
             let w : treeRows (tableOf t) (t .main) ≡ (0, 0) = rest ∙ rw (le-ltb 1000000 (cost (tree (tableOf t) (t .main))) z) in
@@ -97,7 +97,7 @@ module _ {t : Table} {ws : List ℕ} {r : ℕ} (g : Good t) (given : t .main < t
             let sorted = p .sorted (omega (arith, p .most)) in
             record {
               verdict = e ∙ sym w;
-              runs = λ _. record { packed = packed; sorted = sorted; number = sorted (t .main) (omega (arith, g .n)) .number low };
+              runs = λ _. record { packed = packed; sorted = sorted; number = sorted .node (t .main) (omega (arith, g .n)) .number low };
             }
 
 -- ---- a program from its bytes
@@ -108,7 +108,7 @@ module _ {s : List ℕ} {o : Outcome} (l : Loads s o) where
       let q : eqb (program.load s .number) 0 ≡ false = ne-eqb (program.load s .number) 0 (λ e. h (l .number ∙ e)) in
       record { verdict = rw (l .number, l .place, q); passed = λ z. absurd (h z) }
 
-  module _ (z : o .number ≡ 0) {ws : List ℕ} {v : Verdict} (r : Rows (o .table) ws v) where
+  module _ (z : o .number ≡ 0) {ws : List ℕ} {v : Verdict} (r : TreeRows (o .table) ws v) where
     same-check : pair v ≡ check s
     unfolding check
     same-check =

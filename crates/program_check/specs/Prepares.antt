@@ -8,7 +8,7 @@ use Rattle.program.specs.Check.{check, mainOf}
 use Rattle.words.specs.Form.{numberForms}
 use Rattle.words.specs.Word.{form, word}
 use Rattle.words.specs.Trees.{treeAt}
-use Rattle.words.specs.Sound.{Sorted, Sound}
+use Rattle.words.specs.Sound.{AllSorted, Sound}
 use Rattle.operands.specs.Formed.{AllFormed, Empty}
 use Rattle.program_check.specs.declared.Checked.{Checked}
 use Rattle.program_check.specs.declared.Prepared.{Prepared}
@@ -19,7 +19,7 @@ pub record Accepted (s ws : List ℕ) (n main : ℕ) : Type 0 where
   pub long : length ws ≡ nodeLimit
   pub formed : AllFormed ws
   pub empty : Empty ws n
-  pub sorted : (k : ℕ) → k < nodeLimit → Sorted ws k
+  pub sorted : AllSorted ws
   pub inside : main < nodeLimit
   pub number : form (word ws main) < numberForms
   pub tree : treeAt ws main ≡ mainOf s

@@ -8,11 +8,8 @@ ghost use Rattle.program.specs.Check.{check as checkOf};
 ghost use Rattle.verdict.specs.Pair.{pair};
 ghost use Rattle.operands.specs.Formed.{AllFormed};
 ghost use Rattle.load.specs.Loads.{Good};
-ghost use Rattle.program_check.specs.Rows.{Above, LowestUse, Rows};
+ghost use Rattle.program_check.specs.TreeRows.{Above, LowestMisuse, TreeRows};
 ghost use Rattle.program_check.specs.Prepares.{Checks, Prepares};
-
-// The most that main may cost.
-const COST: u32 = 1000000;
 
 // Number 0: the table is accepted, and main is its main node. Else the refusal and its place.
 pub struct Prepared {
@@ -61,7 +58,7 @@ fn uses(
     n: usize,
 ) -> u16
     requires { ⌜ AllFormed (now ws) × (defs ≤ byteValues) × (n ≤ nodeLimit) ⌝ }
-    ensures { λ r. ⌜ LowestUse (now (ws .entry)) (now (kinds .entry)) (now (items .entry)) (now (counts .entry)) (now (bodies .entry)) defs n r ⌝ }
+    ensures { λ r. ⌜ LowestMisuse (now (ws .entry)) (now (kinds .entry)) (now (items .entry)) (now (counts .entry)) (now (bodies .entry)) defs n r ⌝ }
 {
     let no = false;
     let mut sp = [no; layout::NODES];
@@ -72,7 +69,7 @@ fn uses(
 // Refusals 7 to 10 of a loaded table, and its words.
 fn tree_rows(t: load::Table, ws: &mut [u64; layout::NODES]) -> verdict::Verdict
     requires { ⌜ Good t × (t .main < t .n) × (length (now ws) ≡ nodeLimit) ⌝ }
-    ensures { λ r. ⌜ Rows t (now (ws .exit)) r ⌝ }
+    ensures { λ r. ⌜ TreeRows t (now (ws .exit)) r ⌝ }
 {
     let mut kinds = [0; layout::NODES];
     let mut items = [0; layout::NODES];
@@ -90,7 +87,7 @@ fn tree_rows(t: load::Table, ws: &mut [u64; layout::NODES]) -> verdict::Verdict
     if u < layout::NO_NODE {
         return verdict::refused(9, u as usize);
     }
-    if COST < costs::main_cost(ws, t.main as u16) {
+    if costs::LIMIT < costs::main_cost(ws, t.main as u16) {
         return verdict::refused(10, 0);
     }
     verdict::accepted()

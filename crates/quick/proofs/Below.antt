@@ -6,7 +6,7 @@ use native.Mathlib.Omega.{arith}
 use Rattle.program.specs.Table.{nodeLimit}
 use Rattle.words.specs.Form.{operatorForm, ifForm, foldByForm, pairForm}
 use Rattle.words.specs.Word.{form, p1, p2, p3, body, word}
-use Rattle.quick.specs.Quick.{AllSorted}
+use Rattle.words.specs.Sound.{AllSorted}
 
 module _ {ws : List ℕ} {n : ℕ} (l : n < nodeLimit) (s : AllSorted ws) where
   pub operator-below : form (word ws n) ≡ operatorForm → (p1 (word ws n) < nodeLimit) × (p2 (word ws n) < nodeLimit)

@@ -17,7 +17,8 @@ use Rattle.words.specs.Word.{form, p1, p2, p3, word}
 use Rattle.words.specs.Trees.{treeAt}
 use Rattle.words.specs.Sound.{lesser, Least}
 use Rattle.words.proofs.Trees.{tree-param, tree-if, tree-pair}
-use Rattle.quick.specs.Quick.{AllSorted, Picks}
+use Rattle.words.specs.Sound.{AllSorted}
+use Rattle.quick.specs.Quick.{Picks}
 
 -- the lesser of two is the same either way round
 never : (a b : ℕ) → ltb b a ≡ true → ltb a b ≡ true → ⊥

@@ -6,10 +6,7 @@ use Rattle.program.specs.Table.{nodeLimit}
 use Rattle.words.specs.Form.{parameterForm, operatorForm, foldByForm, leastForm, pairForm, leafForms, numberForms}
 use Rattle.words.specs.Word.{form, item, p1, p2, p3, body, word}
 use Rattle.words.specs.Trees.{treeAt}
-use Rattle.words.specs.Sound.{Least, Sorted}
-
-pub record AllSorted (ws : List ℕ) : Type 0 where
-  pub node : (n : ℕ) → n < nodeLimit → Sorted ws n
+use Rattle.words.specs.Sound.{Least, AllSorted}
 
 -- node n has form f and item i
 abbrev pub Is : List ℕ → ℕ → ℕ → ℕ → Type 0

@@ -15,7 +15,8 @@ ghost use Rattle.words.specs.Form.{ifForm, leafForms, forms};
 ghost use Rattle.words.specs.Word.{form, word};
 ghost use Rattle.words.specs.Trees.{treeAt};
 ghost use Rattle.words.specs.Sound.{Least};
-ghost use Rattle.quick.specs.Quick.{AllSorted, Is, Picks, Quick, Quickened};
+ghost use Rattle.words.specs.Sound.{AllSorted};
+ghost use Rattle.quick.specs.Quick.{Is, Picks, Quick, Quickened};
 
 // The operator <.
 const LESS: u8 = 4;

@@ -1,4 +1,4 @@
--- The refusals of one field, near the code. Internal: `proofs/Rows.antt` proves that they are those of program's rows.
+-- The refusals of one field, near the code. Internal: `proofs/RefusalRows.antt` proves that they are those of program's rows.
 use mathlib.Core.Bool.{Bool, false, cond}
 use mathlib.Core.List.{List}
 use Prim.Native.Nat.{ℕ}

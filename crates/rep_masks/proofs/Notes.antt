@@ -10,6 +10,7 @@ use lib.Dec.{eqb, ltb}
 use lib.Bits.{bitOr, or-zero-l, or-zero-r}
 use borrow.Author.Count.{below-none}
 use borrow.Author.Tests.{ltb-true, ltb-false}
+use Rattle.program.proofs.Names.{among-append}
 use Rattle.program.specs.Table.{among, nodeLimit}
 use Rattle.program.specs.Tree.{Expr, nothing}
 use Rattle.round.specs.Round.{reps}
@@ -21,7 +22,7 @@ use Rattle.words.specs.Trees.{treeAt}
 use Rattle.words.proofs.Trees.{tree-lit}
 use Rattle.operands.specs.Formed.{width, operand, hasBody, binds, part, partNote, Formed, Empty}
 use Rattle.operands.proofs.Below.{body-below, set-more}
-use Rattle.operands.proofs.Leaves.{Leaf}
+use Rattle.operands.proofs.Alone.{Alone}
 use Rattle.operands.proofs.Views.{View, is-constant, is-parameter, is-variable, is-operator, is-sense, is-rep, is-if, is-mux, is-fold-by, is-call, is-fold, is-nbr, is-range, is-field-if}
 use Rattle.operands.proofs.Views.{is-field-operator, view}
 use Rattle.rep_masks.specs.Masks.{Mask, Masks, ownMask, bodyMask, maskOf}
@@ -51,11 +52,6 @@ all-reps (is-nbr h e) = rw (e, h) (simp append-nil)
 all-reps (is-range h e) = rw (e, h)
 all-reps (is-field-if h e) = rw (e, h) (simp append-nil)
 all-reps (is-field-operator h e) = rw (e, h) (simp append-nil)
-
-among-append : (v : ℕ) (a b : List ℕ) → among v (a ++ b) ≡ among v a || among v b
-unfolding among
-among-append v [] b = refl
-among-append v (n ∷ a) b = ap (λ (t : Bool). eqb v n || t) (among-append v a b) ∙ sym (or-assoc (eqb v n) (among v a) (among v b))
 
 module _ {ws us : List ℕ} {n : ℕ} (f : Formed ws n) (m : Masks ws us n) (v : ℕ) (l : v < 16) where
   own-bit : (w : ℕ) → hasBit v (ownMask w) ≡ among v (ownReps w)
@@ -124,10 +120,10 @@ masks-rest {ws} {us} {n} empty s blank = record { long = s .long; mask = λ k h.
         let z : form (word ws k) ≡ constantForm = rw (empty .rest k m) in
         rw (blank .rest k m, tree-lit ws k z) (no-bit v)
 
--- ---- a leaf has none
-pub leaf-mask : (us : List ℕ) (w : ℕ) → Leaf w → 0 ≡ maskOf us w
+-- ---- a node that names no other has none
+pub alone-mask : (us : List ℕ) (w : ℕ) → Alone w → 0 ≡ maskOf us w
 unfolding maskOf
-leaf-mask us w l = rw (l .narrow, l .bodiless, l .free)
+alone-mask us w l = rw (l .narrow, l .bodiless, l .free)
 
 -- ---- an operator has those of its two sides
 pub operator-mask : (us : List ℕ) (w : ℕ) → form w ≡ operatorForm → bitOr (partNote 0 us w 0) (partNote 0 us w 1) ≡ maskOf us w

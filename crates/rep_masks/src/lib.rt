@@ -10,7 +10,7 @@ ghost use Prim.Native.Nat.{_<_, _≤_};
 ghost use lib.ListN.{length, replicate};
 ghost use Rattle.program.specs.Table.{nodeLimit};
 ghost use Rattle.words.specs.Word.{word};
-ghost use Rattle.operands.specs.Formed.{width, operand as operandAt, hasBody, partNote, Formed, AllFormed, Empty};
+ghost use Rattle.operands.specs.Formed.{width, bodyAt, operand as operandAt, hasBody, partNote, Formed, AllFormed, Empty};
 ghost use Rattle.rep_masks.specs.Masks.{Masks, ownMask, bodyMask, maskOf};
 
 // The variable that a node binds.
@@ -25,11 +25,11 @@ fn own_mask(w: u64) -> u16
 }
 
 fn body_mask(us: &[u16; layout::NODES], w: u64) -> u16
-    requires { ⌜ (hasBody w ≡ true → operandAt w 4 < nodeLimit) ⌝ }
+    requires { ⌜ (hasBody w ≡ true → operandAt w bodyAt < nodeLimit) ⌝ }
     ensures { λ r. ⌜ r ≡ bodyMask (now (us .entry)) w ⌝ }
 {
     if is(w, operands::BODY) {
-        return us[operand(w, 4)];
+        return us[operand(w, operands::BODY_AT)];
     }
     0
 }
@@ -49,7 +49,7 @@ fn mask_of(ws: &[u64; layout::NODES], us: &[u16; layout::NODES], n: usize) -> u1
     ensures { λ r. ⌜ r ≡ maskOf (now (us .entry)) (word (now (ws .entry)) n) ⌝ }
 {
     let w = ws[n];
-    if is(w, operands::LEAF) {
+    if is(w, operands::ALONE) {
         return 0;
     }
     if form_of(w) == unpack::OPERATOR {

@@ -1,8 +1,8 @@
 -- A round: what evaluating the main expression answers, stores and sends. Definitions only: nothing is assumed.
-use mathlib.Core.Bool.{Bool, true, false, cond, _&&_}
+use mathlib.Core.Bool.{Bool, cond}
 use mathlib.Core.List.{List, [], _∷_, _++_}
 use mathlib.Core.Option.{Option, none, some}
-use Prim.Native.Nat.{ℕ, suc, _+_, _-_, _/_, _%_, _^_}
+use Prim.Native.Nat.{ℕ, _+_, _/_, _%_, _^_}
 use lib.ListN.{getD, set, take, drop, replicate}
 use lib.Dec.{ltb}
 use lib.IntN.{ℤ, pos, negsuc}

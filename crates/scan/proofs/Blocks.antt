@@ -1,6 +1,6 @@
 -- What the pass over a device's cells gives. Assumes nothing.
 use mathlib.Core.Path.{_≡_, refl, sym, _∙_}
-use mathlib.Core.Bool.{Bool, true, false, not, cond, _&&_, _||_}
+use mathlib.Core.Bool.{Bool, true, false, not, cond, _&&_, _||_, or-true}
 use mathlib.Core.List.{List}
 use Prim.Native.Nat.{ℕ, zero, suc, _+_, _-_, _*_, _/_, _%_, _≤_, _<_}
 use native.Mathlib.Omega.{arith}
@@ -10,7 +10,6 @@ use lib.IntN.{ℤ, pos}
 use borrow.Author.Tests.{ne-eqb, ltb-true, ltb-false, eqb-true, eqb-false}
 use Rattle.number.specs.Number.{mark, eqZ}
 use Rattle.network.specs.Network.{sensorsAt, heardAt, pendingAt, blockSize, heardSound, isDistance}
-use Rattle.decide.proofs.Picks.{or-true}
 use Rattle.cell_rules.specs.Sound.{soundAt, pendingFrom}
 use Rattle.cell_rules.proofs.Cell.{variable, heard, pending}
 use Rattle.scan.specs.Pass.{SoundBelow, RowIs, Pending, nothing, message, RowsPass}

@@ -92,7 +92,7 @@ fn first_unsound(net: &[i32]) -> usize
             bad = device * layout::BLOCK + layout::SENSORS;
             break 'search;
         }
-        for row in 0..32 {
+        for row in 0..layout::ROWS {
             for slot in 0..layout::ROW {
                 if !cell_rules::cell_sound(net, device, row, slot) {
                     bad = device * layout::BLOCK + layout::HEARD + row * layout::ROW + slot;

@@ -10,16 +10,16 @@ use lib.Bits.{bitAnd, bitOr, and-zero-l, or-zero-r}
 use borrow.Author.Count.{below-none}
 use borrow.Author.Tests.{eqb-false, ltb-true, ltb-false, lt-ltb}
 use Rattle.program.specs.Table.{among, nodeLimit}
-use Rattle.program.proofs.Tests.{either}
+use Rattle.decide.proofs.Picks.{neither}
 use Rattle.program.specs.Tree.{nothing, misread}
 use Rattle.bits.specs.Bits.{hasBit, allBits}
 use Rattle.bits.proofs.Bits.{all-below, same, same-eq, no-bit, or-bit, own-bit, bit-stays, no-high}
 use Rattle.words.specs.Form.{constantForm, parameterForm, operatorForm}
 use Rattle.words.specs.Word.{form, item, word}
 use Rattle.words.specs.Trees.{treeAt}
-use Rattle.operands.specs.Formed.{width, operand, leafSet, readSet, isLeaf, binds, reads, part, partNote, Formed}
+use Rattle.operands.specs.Formed.{width, operand, aloneSet, readSet, isAlone, binds, reads, part, partNote, Formed}
 use Rattle.operands.proofs.Below.{set-more, asks-part}
-use Rattle.operands.proofs.Leaves.{leaf-of}
+use Rattle.operands.proofs.Alone.{alone-of}
 use Rattle.operands.proofs.Views.{view, width-of}
 use Rattle.scope_pass.specs.Reads.{variablesAt, Allowed, Tells, Notes, Within, Named, ownSet, ownReads, innerReads, partsOf, readsOf}
 use Rattle.scope_pass.proofs.Misread.{ownList, keptIn, all-misread}
@@ -78,7 +78,7 @@ allowed-inner w m {count} {kept} al = go (binds w) al
             let d = eqb-false v (item w) q in
             al .variable v h (bit-stays (variablesAt + item w) (variablesAt + v) m (omega arith) (omega arith) (λ z. omega arith) e)
 
--- ---- the forms that read something of themselves: a parameter or those that read a variable, all of them leaves
+-- ---- the forms that read something of themselves: a parameter or those that read a variable, none of which names a node
 owns : ℕ → Bool
 owns f = same (hasBit f ownSet) (eqb f parameterForm || hasBit f readSet)
 
@@ -86,12 +86,12 @@ own-is : (w : ℕ) → hasBit (form w) ownSet ≡ eqb (form w) parameterForm || 
 unfolding owns
 own-is w = same-eq _ _ (all-below owns 32 refl (form w) (omega arith))
 
-owned-leaf : ℕ → Bool
-owned-leaf f = not (hasBit f ownSet) || hasBit f leafSet
+owned-alone : ℕ → Bool
+owned-alone f = not (hasBit f ownSet) || hasBit f aloneSet
 
-own-leaf : (w : ℕ) → hasBit (form w) ownSet ≡ true → isLeaf w ≡ true
-unfolding owned-leaf
-own-leaf w e = rw e at (all-below owned-leaf 32 refl (form w) (omega arith))
+own-alone : (w : ℕ) → hasBit (form w) ownSet ≡ true → isAlone w ≡ true
+unfolding owned-alone
+own-alone w e = rw e at (all-below owned-alone 32 refl (form w) (omega arith))
 
 -- ---- operands by their number
 module _ (us : List ℕ) (w : ℕ) where
@@ -135,7 +135,7 @@ module _ (us : List ℕ) (w : ℕ) where
   reads-parts e = rw e
 
   pub reads-constant : form w ≡ constantForm → 0 ≡ readsOf us w
-  reads-constant h = parts-0 (leaf-of w (rw h) .narrow) ∙ reads-parts (rw h)
+  reads-constant h = parts-0 (alone-of w (rw h) .narrow) ∙ reads-parts (rw h)
 
   pub reads-operator : form w ≡ operatorForm → bitOr (noted 0) (noted 1) ≡ readsOf us w
   reads-operator h =
@@ -185,8 +185,8 @@ module _ {ws us : List ℕ} {n : ℕ} (f : Formed ws n) (m : Notes ws us n) (cou
   node-clean kept al = go (hasBit (form w) ownSet) refl al
     where
       go : (b : Bool) → hasBit (form w) ownSet ≡ b → Allowed count kept (cond b (ownReads w) (partsOf us w)) → misread count kept (treeAt ws n) ≡ []
-      go true o al = together kept (own-clean kept o al) (rw (← parts-0 us w (leaf-of w (own-leaf w o) .narrow)) (allowed-none count kept))
-      go false o al = let (p, r) = either (eqb (form w) parameterForm) (reads w) (sym (own-is w) ∙ o) in together kept (rw (p, r)) al
+      go true o al = together kept (own-clean kept o al) (rw (← parts-0 us w (alone-of w (own-alone w o) .narrow)) (allowed-none count kept))
+      go false o al = let (p, r) = neither (eqb (form w) parameterForm) (reads w) (sym (own-is w) ∙ o) in together kept (rw (p, r)) al
 
 -- ---- one more node noted
 pub notes-none : {ws us : List ℕ} → length us ≡ nodeLimit → Notes ws us 0

@@ -21,7 +21,7 @@ use Rattle.words.specs.Trees.{treeAt}
 use Rattle.operands.specs.Formed.{width, operand, binds, reads, part, Formed, AllFormed}
 use Rattle.operands.specs.Found.{found}
 use Rattle.operands.proofs.Views.{view}
-use Rattle.operands.proofs.Leaves.{Leaf}
+use Rattle.operands.proofs.Alone.{Alone}
 use Rattle.scope_pass.specs.Reads.{Clean}
 use Rattle.scope_pass.proofs.Misread.{ownList, keptIn, all-misread}
 use Rattle.scopes.specs.Places.{At}
@@ -99,10 +99,10 @@ module _ (ws : List ℕ) (w j : ℕ) {count scope best : ℕ} where
       rw (le-ltb j (width w) h)
       record { low = max nodeLimit best; place = λ kept s. record { is = rw (le-ltb (max nodeLimit best) nodeLimit (omega arith)) }; least = omega arith }
 
--- a leaf has nothing under it
-pub walk-leaf : {ws : List ℕ} {n count scope best o r : ℕ} → n < nodeLimit → Formed ws n → Leaf (word ws n) → o ≡ ownPlace n (word ws n) count scope
+-- a node that names none has nothing under it
+pub walk-alone : {ws : List ℕ} {n count scope best o r : ℕ} → n < nodeLimit → Formed ws n → Alone (word ws n) → o ≡ ownPlace n (word ws n) count scope
     → r ≡ min o best → Lowest count scope (treeAt ws n) best r
-walk-leaf {ws} {n} h f l eo e =
+walk-alone {ws} {n} h f l eo e =
     let z : width (word ws n) ≡ 0 = l .narrow in
     joined h f eo e (part-none ws (word ws n) 3 (omega arith)) (part-none ws (word ws n) 2 (omega arith)) refl (part-none ws (word ws n) 1 (omega arith))
     (part-none ws (word ws n) 0 (omega arith))

@@ -59,7 +59,7 @@ fn with_own(w: u64, scope: u16) -> u16
 }
 
 // Each of the two: the lower of `best` and the lowest node that misreads. Operand 0 comes last, as a call that is a jump; a
-// leaf is looked at where it is named.
+// node that names none is looked at where it is named.
 fn part(ws: &[u64; layout::NODES], n: usize, j: u32, count: u8, scope: u16, best: u16) -> u16
     requires { ⌜ (j < 4) × (n < nodeLimit) × AllFormed (now ws) ⌝ }
     ensures { λ r. ⌜ Lowest count scope (partOf (now (ws .entry)) (word (now (ws .entry)) n) j) best r ⌝ }
@@ -68,7 +68,7 @@ fn part(ws: &[u64; layout::NODES], n: usize, j: u32, count: u8, scope: u16, best
     if j < width_of(w) as u32 {
         let m = operand(w, j);
         let v = ws[m];
-        if is(v, operands::LEAF) {
+        if is(v, operands::ALONE) {
             return lower(own(m as u16, v, count, scope), best);
         }
         return walk(ws, m, count, scope, best);

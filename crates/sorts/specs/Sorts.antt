@@ -15,12 +15,12 @@ abbrev pub differs : Bool → Bool → Bool
 differs x y = cond x (not y) y
 
 -- node k is a field
-abbrev pub fieldAt : List ℕ → ℕ → Bool
-fieldAt ws k = leb fieldForms (form (word ws k))
+abbrev pub isFieldAt : List ℕ → ℕ → Bool
+isFieldAt ws k = leb fieldForms (form (word ws k))
 
 -- child j, of so many, is a field
 abbrev pub partField : List ℕ → ℕ → ℕ → ℕ → Bool
-partField ws kids j k = cond (ltb j kids) (fieldAt ws k) false
+partField ws kids j k = cond (ltb j kids) (isFieldAt ws k) false
 
 abbrev pub flagsIn : List ℕ → Node → Flags
 flagsIn ws x =
@@ -60,7 +60,7 @@ firstBad r n bad = cond (ltb r nodeLimit) r (cond bad n nodeLimit)
 
 -- the lower of r and node k, where that is a field; the lowest of r and of those among ks that are fields
 abbrev pub lowerField : List ℕ → ℕ → ℕ → ℕ
-lowerField ws k r = cond (fieldAt ws k && ltb k r) k r
+lowerField ws k r = cond (isFieldAt ws k && ltb k r) k r
 
 unfoldable pub lowestField : List ℕ → List ℕ → ℕ → ℕ
 lowestField ws [] r = r

@@ -5,7 +5,7 @@ ghost use mathlib.Core.Path.{_≡_};
 ghost use mathlib.Core.Bool.{_||_};
 ghost use Prim.Native.Nat.{_<_};
 ghost use Rattle.program.specs.Table.{kindCount};
-ghost use Rattle.sorts.specs.Sorts.{differs, fieldAt, partField, flagsIn, brokenBy, firstBad, lowerField, lowestField};
+ghost use Rattle.sorts.specs.Sorts.{differs, isFieldAt, partField, flagsIn, brokenBy, firstBad, lowerField, lowestField};
 
 // Which of a node's children are fields.
 pub struct Flags {
@@ -35,7 +35,7 @@ fn differ(x: bool, y: bool) -> bool
 
 // Whether node k is a field, by its word.
 pub fn is_field(ws: &[u64; layout::NODES], k: u8) -> bool
-    ensures { λ r. ⌜ r ≡ fieldAt (now (ws .entry)) k ⌝ }
+    ensures { λ r. ⌜ r ≡ isFieldAt (now (ws .entry)) k ⌝ }
 {
     unpack::FIELDS <= form_of(ws[k as usize])
 }

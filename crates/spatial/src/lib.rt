@@ -10,15 +10,15 @@ ghost use lib.ListN.{length};
 ghost use Rattle.program.specs.Table.{nodeLimit};
 ghost use Rattle.words.specs.Form.{callForm};
 ghost use Rattle.words.specs.Word.{form, word};
-ghost use Rattle.operands.specs.Formed.{width, operand as operandAt, partNote, Formed, AllFormed};
+ghost use Rattle.operands.specs.Formed.{width, bodyAt, operand as operandAt, partNote, Formed, AllFormed};
 ghost use Rattle.spatial.specs.Noted.{Spatials, bodySpatial, spatialOf};
 
 fn body_spatial(sp: &[bool; layout::NODES], w: u64) -> bool
-    requires { ⌜ (form w ≡ callForm → operandAt w 4 < nodeLimit) ⌝ }
+    requires { ⌜ (form w ≡ callForm → operandAt w bodyAt < nodeLimit) ⌝ }
     ensures { λ r. ⌜ r ≡ bodySpatial (now (sp .entry)) w ⌝ }
 {
     if form_of(w) == unpack::CALL {
-        return sp[operand(w, 4)];
+        return sp[operand(w, operands::BODY_AT)];
     }
     false
 }

@@ -9,7 +9,7 @@ use lib.Seq.{getD-set-same, getD-set-other}
 use lib.Dec.{eqb, leb}
 use borrow.Author.Tests.{eqb-true, eqb-false, leb-false}
 use Rattle.program.specs.Table.{among, beyond, takenBy, unnamed}
-use Rattle.program.proofs.Tests.{either}
+use Rattle.decide.proofs.Picks.{neither}
 use Rattle.program.proofs.Names.{among-append}
 use Rattle.taken.specs.Taken.{takenIn, withTaken, takeIf, untaken}
 use Rattle.taken.specs.Agrees.{Agree}
@@ -34,7 +34,7 @@ if-agrees false k h a = a
 -- a number below the bound, and the others
 below : (n k : ℕ) (ks : List ℕ) → beyond n (k ∷ ks) ≡ false → (k < n) × (beyond n ks ≡ false)
 unfolding beyond
-below n k ks e = let p = either (leb n k) (beyond n ks) e in (leb-false n k (p .0), p .1)
+below n k ks e = let p = neither (leb n k) (beyond n ks) e in (leb-false n k (p .0), p .1)
 
 pub taken-is : {bound : ℕ} {m : List Bool} {taken : List ℕ} (n : ℕ) (ks : List ℕ) → n ≤ bound → beyond n ks ≡ false → Agree bound m taken → takenIn m ks ≡ takenBy taken ks
 unfolding takenIn takenBy

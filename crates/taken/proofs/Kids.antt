@@ -12,7 +12,7 @@ use Rattle.program.specs.Table.{beyond, nodeLimit}
 use Rattle.nodes.specs.declared.Node.{Node}
 use Rattle.nodes.specs.Values.{childrenOf}
 use Rattle.taken.specs.Taken.{takenIn, withTaken, takeIf, Takes, TakesAll}
-use Rattle.taken.proofs.Rows.{none-taken}
+use Rattle.taken.proofs.InTurn.{none-taken}
 
 no-more : (i a : ℕ) (l : List ℕ) {m m′ : List Bool} {s : Bool} → i ≡ 0 → TakesAll (take (i - 1) l) m s m′ → TakesAll (take i (a ∷ l)) m s m′
 no-more zero a l z w = w

@@ -1,4 +1,4 @@
 pub mod Walk
-pub mod Rows
+pub mod InTurn
 pub mod Kids
 pub mod Agree

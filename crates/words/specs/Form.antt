@@ -1,7 +1,7 @@
 -- The forms of a node's word: which way it is evaluated. Internal: no public contract cites it. Definitions only: nothing is assumed.
 use Prim.Native.Nat.{ℕ}
 
--- those that give a number: one for each kind but nbr and nbr-range. The evaluator keeps those together that three divides (operator, if, call, pair)
+-- those that give a number: one for each kind but nbr and nbr-range. The evaluator keeps those together that three divides (operator, if, call, pair; a constant is a leaf)
 abbrev pub constantForm : ℕ
 constantForm = 0
 

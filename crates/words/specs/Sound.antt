@@ -61,6 +61,9 @@ pub record Sorted (ws : List ℕ) (n : ℕ) : Type 0 where
   pub operF : form (word ws n) ≡ fieldOperatorForm → (p1 (word ws n) < n) × (p2 (word ws n) < n)
   pub side : form (word ws n) ≡ fieldOperatorForm → form (word ws (p1 (word ws n))) < fieldForms → fieldForms ≤ form (word ws (p2 (word ws n)))
 
+pub record AllSorted (ws : List ℕ) : Type 0 where
+  pub node : (n : ℕ) → n < nodeLimit → Sorted ws n
+
 pub record Right (ws us : List ℕ) (n : ℕ) : Type 0 where
   pub sorted : Sorted ws n
   -- the mask's bits are the variables of the reps under the node, in called definitions too

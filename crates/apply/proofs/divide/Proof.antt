@@ -1,6 +1,6 @@
 -- `apply::divide` meets its contract. Assumes nothing.
 use mathlib.Core.Path.{refl, sym, ap, _∙_}
-use lib.IntN.{ℤ, pos}
+use lib.IntN.{pos}
 use mir.Syntax.{w32}
 use mir.Val.{ofZ}
 use mir.Facts.{sfits-lit}

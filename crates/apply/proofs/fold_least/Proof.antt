@@ -1,5 +1,5 @@
 -- `apply::fold_least` meets its contract. Assumes nothing.
-use mathlib.Core.Path.{_≡_, refl, sym, ap, _∙_}
+use mathlib.Core.Path.{_≡_, sym, ap, _∙_}
 use native.Mathlib.Omega.{arith}
 use lib.IntN.{ℤ, pos}
 use lib.ListN.{getD}
@@ -7,12 +7,11 @@ use mir.Syntax.{w32}
 use mir.Val.{toZ}
 use mir.ValLaws.{toZ-ofZ}
 use borrow.Author.Needs.{needs, sfits-of}
-use Rattle.round.specs.Round.{State, number, done, folded}
+use Rattle.round.specs.Round.{State, folded}
 use Rattle.words.specs.Sound.{lesser}
 use Rattle.domain.specs.Held.{fieldOf}
 use Rattle.domain.specs.Members.{members}
 use Rattle.domain.proofs.Laws.{none-in}
-use Rattle.arith.proofs.Signs.{both-read}
 use Rattle.apply.specs.State.{lessens}
 use Rattle.apply.proofs.Folding.{along, fold-starts, fold-ends, fold-turns}
 use Rattle.apply.proofs.fold_least.Statement.{statement}

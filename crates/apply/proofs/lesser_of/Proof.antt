@@ -1,5 +1,4 @@
 -- `apply::lesser_of` meets its contract. Assumes nothing.
-use mathlib.Core.Path.{sym}
 use mir.Syntax.{w32}
 use mir.ValLaws.{toZ-ofZ}
 use Rattle.arith.proofs.Signs.{lt-read}

@@ -7,7 +7,7 @@ use mir.Facts.{toZ-ofZ}
 use borrow.Author.Tests.{eq-eqb, ne-eqb}
 use borrow.Author.Needs.{needs}
 use Rattle.cell_rules.specs.Sound.{pendingFrom}
-use Rattle.decide.proofs.Picks.{onTrue, onFalse, or-left, or-right}
+use Rattle.decide.proofs.Picks.{onTrue, onFalse, by-first, or-right}
 use Rattle.cell_rules.proofs.pending_sound.Statement.{statement}
 use Rattle.cell_rules.proofs.pending_sound.Tie as tie
 
@@ -16,7 +16,7 @@ same-requires c κs = search needs
 
 returns : tie.Need-returns
 unfolding pendingFrom
-returns c = onTrue _ (eq-eqb _ _ (c .before .before .if1 .taken)) (or-left _ (sym (rw (toZ-ofZ (c .before .before .before .fits .x)) at (c .before .same .ensures)) ∙ c .if2 .taken))
+returns c = onTrue _ (eq-eqb _ _ (c .before .before .if1 .taken)) (sym (by-first _ (sym (rw (toZ-ofZ (c .before .before .before .fits .x)) at (c .before .same .ensures)) ∙ c .if2 .taken)))
 
 returns-2 : tie.Need-returns-2
 unfolding pendingFrom
@@ -38,7 +38,7 @@ same-requires-3 c κs = search needs
 
 returns-4 : tie.Need-returns-4
 unfolding pendingFrom
-returns-4 c = onFalse _ (ne-eqb _ _ (c .before .before .if1 .left)) (or-left _ (sym (rw (toZ-ofZ (c .before .before .before .fits .x)) at (c .before .same3 .ensures)) ∙ c .if4 .taken))
+returns-4 c = onFalse _ (ne-eqb _ _ (c .before .before .if1 .left)) (sym (by-first _ (sym (rw (toZ-ofZ (c .before .before .before .fits .x)) at (c .before .same3 .ensures)) ∙ c .if4 .taken)))
 
 returns-5 : tie.Need-returns-5
 unfolding pendingFrom

@@ -2,7 +2,7 @@
 use mathlib.Core.Path.{sym, _∙_}
 use mir.Facts.{toZ-ofZ}
 use borrow.Author.Needs.{needs}
-use Rattle.decide.proofs.Picks.{or-left, or-right}
+use Rattle.decide.proofs.Picks.{by-first, or-right}
 use Rattle.cells.proofs.distance_sound.Statement.{statement}
 use Rattle.cells.proofs.distance_sound.Tie as tie
 
@@ -10,7 +10,7 @@ same-requires : tie.Need-same-requires
 same-requires c κs = search needs
 
 returns : tie.Need-returns
-returns c = or-left _ (sym (rw (toZ-ofZ (c .before .before .fits .x)) at (c .before .same .ensures)) ∙ c .if1 .taken)
+returns c = sym (by-first _ (sym (rw (toZ-ofZ (c .before .before .fits .x)) at (c .before .same .ensures)) ∙ c .if1 .taken))
 
 in-range-requires : tie.Need-in-range-requires
 in-range-requires c κs = search needs

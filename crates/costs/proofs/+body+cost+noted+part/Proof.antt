@@ -9,10 +9,10 @@ use borrow.Fn.PlainCycle.{Measures, is, falls, and}
 use Rattle.unpack.proofs.form_of.Reads as form-of-reads
 use Rattle.program.specs.Table.{nodeLimit}
 use Rattle.operands.proofs.is.Reads as is-reads
-use Rattle.operands.proofs.Leaves.{leaf-of}
+use Rattle.operands.proofs.Alone.{alone-of}
 use Rattle.operands.proofs.operand.Reads as operand-reads
 use Rattle.operands.proofs.width_of.Reads as width-of-reads
-use Rattle.costs.proofs.Laws.{at-most, within, joined, operator-joined, body-fold, body-call, body-none, part-some, part-none, part-leaf, is-noted, now-noted, asks-cost, asks-noted, goes-on}
+use Rattle.costs.proofs.Laws.{at-most, within, joined, operator-joined, body-fold, body-call, body-none, part-some, part-none, part-alone, is-noted, now-noted, asks-cost, asks-noted, goes-on}
 use Rattle.costs.proofs.add.Reads as add-reads
 use Rattle.costs.proofs.fifteen.Reads as fifteen-reads
 use Rattle.costs.proofs.body.Reads as body
@@ -305,9 +305,9 @@ part-returns t c =
       (b8 .pre .1 .1 .formed .node (b8 .args .n) (b8 .pre .1 .1 .inside) .operands (b8 .args .j) (b8 .pre .1 .0)
           (omega (arith, b5 .if1 .taken, b6 .width-of .ensures))),
       b8 .pre .1 .1 .inside,
-    ) in part-leaf (getD (b8 .args .ws .now) (b8 .args .n) 0) (b8 .args .j) (b8 .args .sum)
+    ) in part-alone (getD (b8 .args .ws .now) (b8 .args .n) 0) (b8 .args .j) (b8 .args .sum)
     (omega (arith, b5 .if1 .taken, b6 .width-of .ensures)) (b4 .operand .ensures) (b8 .pre .1 .1 .formed .node (b4 .operand .result) m)
-    (leaf-of _ (sym (b2 .is .ensures) ∙ c .before .if2 .taken)) (c .add .ensures) (b8 .pre .1 .1 .noted)
+    (alone-of _ (sym (b2 .is .ensures) ∙ c .before .if2 .taken)) (c .add .ensures) (b8 .pre .1 .1 .noted)
 
 part-cost-requires : (t : ℕ) → part-lts.Need-cost-requires (part-calls t) (part-at t) part.Post
 part-cost-requires t c κs =

@@ -1,7 +1,7 @@
 -- `encode::operator_word` meets its contract. Assumes nothing.
 use native.Mathlib.Omega.{arith}
 use mathlib.Core.Path.{refl}
-use Rattle.encode.proofs.Leaves.{operator-is}
+use Rattle.encode.proofs.Shorter.{operator-is}
 use borrow.Author.Needs.{needs}
 use Rattle.encode.proofs.operator_word.Statement.{statement}
 use Rattle.encode.proofs.operator_word.Tie as tie

@@ -12,6 +12,7 @@ use mir.ValLaws.{toZ-ofZ}
 use mir.Facts.{sfits-lit}
 use borrow.Author.Needs.{needs, sfits-of}
 use borrow.Author.Tests.{lt-ltb}
+use Rattle.decide.proofs.Picks.{cond-yes, cond-no}
 use Rattle.number.specs.Number.{mark, eqZ}
 use Rattle.field.specs.Field.{everywhere}
 use Rattle.round.specs.Round.{State, number, field, Outcome, sensed, reps, arguments, folded, isTrue, eval}
@@ -28,7 +29,7 @@ use Rattle.leaf.proofs.Evaluates.{right, rules, field-rules, ev, ev-oper, ev-se
 use Rattle.leaf.proofs.Evaluates.{ev-nbr, ev-range, ev-iff, ev-operf}
 use Rattle.leaf.proofs.Evaluates.{second-none, second-there, third-none, third-there, fourth-read, an-argument, no-argument}
 use Rattle.leaf.proofs.Asks.{asks, asks-field, asks-side, asks-arg, asks-call, asks-fold, asks-leaf, asks-pair, mask-of, either, fold-parts, by-operator, is-other, is-fold, is-operator}
-use Rattle.leaf.proofs.Numbers.{env-read, from-read, second-read, third-read, least-read, moved, cond-yes, cond-no, same, other}
+use Rattle.leaf.proofs.Numbers.{env-read, from-read, second-read, third-read, least-read, moved, same, other}
 use borrow.Fn.Kinds.{In}
 use borrow.Fn.PlainCycle.{Measures, is, falls, and}
 use Rattle.evaluate.proofs.argument.Reads as argument
@@ -914,8 +915,8 @@ field-at-returns-6 t c =
     (at-second .second .ensures)
     ∙ goes _ (at-field-side .field-side .ensures .leaves) (sfits-of (at-if12 .if12 .given)) (at-if1 .if1 .left)
     ∙ goes _ (at-field-side2 .field-side2 .ensures .leaves) (sfits-of (at-if22 .if22 .given)) (at-if2 .if2 .left)
-    ∙ on-fields _ _ (at-field-side .field-side .ensures .value) (at-field-side2 .field-side2 .ensures .value) _ (at-field-side .field-side .ensures .spread)
-    (at-field-side2 .field-side2 .ensures .spread)
+    ∙ on-fields _ _ (at-field-side .field-side .ensures .value) (at-field-side2 .field-side2 .ensures .value) _ (at-field-side .field-side .ensures .asField)
+    (at-field-side2 .field-side2 .ensures .asField)
     (either (s .args .t .now) (at-first .first .ensures) (at-second .second .ensures) (field-rules (s .pre .1) .side z) (at-field-side .field-side .ensures .sort)
     (at-field-side2 .field-side2 .ensures .sort)))
     (c .field-op .ensures)
@@ -1080,7 +1081,7 @@ field-side-field-at-requires t c κs =
     (omega (arith, s .pre .0), record { sound = q .sound; inside = q .inside; sort = omega (arith, at-form-of .form-of .ensures, at-if1 .if1 .taken); clear = q .clear })
 
 field-side-returns : (t : ℕ) → field-side-lts.Need-returns (field-side-calls t) (field-side-at t) field-side.Post
-field-side-returns t c = record { value = field (held (c .field-at .result)); leaves = c .field-at .ensures; spread = refl; sort = λ h. refl }
+field-side-returns t c = record { value = field (held (c .field-at .result)); leaves = c .field-at .ensures; asField = refl; sort = λ h. refl }
 
 field-side-number-side-requires : (t : ℕ) → field-side-lts.Need-number-side-requires (field-side-calls t) (field-side-at t) field-side.Post
 field-side-number-side-requires t c κs =
@@ -1102,7 +1103,7 @@ field-side-returns-2 t c =
     record {
       value = number (at-number-side .number-side .result);
       leaves = at-number-side .number-side .ensures;
-      spread = sym (c .spread .ensures ∙ ap everywhere (toZ-ofZ w32 (at-number-side .number-side .result) (sfits-of (at-number-side .number-side .ok))));
+      asField = sym (c .spread .ensures ∙ ap everywhere (toZ-ofZ w32 (at-number-side .number-side .result) (sfits-of (at-number-side .number-side .ok))));
       sort = λ h. absurd (omega (arith, at-form-of .form-of .ensures, at-if1 .if1 .left, h));
     }
 
@@ -2210,11 +2211,11 @@ rep-at-returns-3 t c =
     ∙ other (getD (at-operand .operand .last .1 .1 .1 .0) (at-item-of .item-of .result) (pos 0)) mark (at-if2 .if2 .left)))
     (fails _ _ (at-operand2 .operand2 .ensures) (c .if3 .taken))
 
-rep-at-mul-kept : (t : ℕ) → rep-at-lts.Need-mul-kept (rep-at-calls t) (rep-at-at t) rep-at.Post
-rep-at-mul-kept t c = search needs
+rep-at-mul-y : (t : ℕ) → rep-at-lts.Need-mul-y (rep-at-calls t) (rep-at-at t) rep-at.Post
+rep-at-mul-y t c = search needs
 
-rep-at-element-set-from-kept : (t : ℕ) → rep-at-lts.Need-element-set-from-kept (rep-at-calls t) (rep-at-at t) rep-at.Post
-rep-at-element-set-from-kept t c =
+rep-at-element-set-from-y : (t : ℕ) → rep-at-lts.Need-element-set-from-y (rep-at-calls t) (rep-at-at t) rep-at.Post
+rep-at-element-set-from-y t c =
     let at-item-of = c .before .before .before .before .before .before .before .before .before .before .before .before in
     omega (arith, at-item-of .item-of .ensures)
 
@@ -2618,8 +2619,8 @@ pub +argument+call+call-at+field-at+field-if-at+field-side+fold-at+fold-by+if-at
     (rep-at-operand-requires-2 t)
     (rep-at-element-copy-out-if3 t)
     (rep-at-returns-3 t)
-    (rep-at-mul-kept t)
-    (rep-at-element-set-from-kept t)
+    (rep-at-mul-y t)
+    (rep-at-element-set-from-y t)
     (rep-at-returns-4 t))
     λ t. sense-at-lts.spec (sense-at-calls t)
     (sense-at-at t)

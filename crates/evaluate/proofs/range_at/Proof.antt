@@ -1,6 +1,5 @@
 -- `evaluate::range_at` meets its contract. Assumes nothing.
 use mathlib.Core.Path.{refl, sym}
-use native.Mathlib.Omega.{arith}
 use borrow.Author.Needs.{needs}
 use Rattle.apply.proofs.Laws.{sends}
 use Rattle.evaluate.proofs.range_at.Statement.{statement}

@@ -10,7 +10,7 @@ use lib.Seq.{take-suc-set, take-set-le, drop-set-lt, drop-set-add, getD-set-same
 use mir.Facts.{toZ-ofZ}
 use lib.IntN.{ℤ, pos}
 use Rattle.number.specs.Number.{mark}
-use Rattle.apply.specs.State.{stateSize, faultAt, stateOf, faultOf}
+use Rattle.apply.specs.State.{stateSize, sentAt, faultAt, stateOf, faultOf}
 use Rattle.apply.proofs.Laws.{fault-kept}
 use Rattle.fire.proofs.Rows.{front-more}
 use Rattle.fire.proofs.begin.Statement.{statement}
@@ -21,22 +21,22 @@ record Filled (here st : List ℤ) (i : ℕ) : Type 0 where
   pub near : i ≤ 16
   pub whole : length st ≡ stateSize
   pub variables : take i st ≡ take i here
-  pub silent : take i (drop 16 st) ≡ replicate i mark
+  pub silent : take i (drop sentAt st) ≡ replicate i mark
   pub clear : faultOf st ≡ pos 0
 
-one-more : (here st : List ℤ) (i : ℕ) (v : ℤ) → i < 16 → i < length here → v ≡ getD here i (pos 0) → Filled here st i → Filled here (set (set st i v) (16 + i) mark) (i + 1)
+one-more : (here st : List ℤ) (i : ℕ) (v : ℤ) → i < 16 → i < length here → v ≡ getD here i (pos 0) → Filled here st i → Filled here (set (set st i v) (sentAt + i) mark) (i + 1)
 one-more here st i v h k e f =
     let w : length (set st i v) ≡ stateSize = length-set st i v ∙ f .whole in
-    let d : drop 16 (set (set st i v) (16 + i) mark) ≡ set (drop 16 st) i mark = drop-set-add 16 (set st i v) i mark ∙ rw (drop-set-lt 16 st i v h) in
+    let d : drop sentAt (set (set st i v) (sentAt + i) mark) ≡ set (drop sentAt st) i mark = drop-set-add sentAt (set st i v) i mark ∙ rw (drop-set-lt sentAt st i v h) in
     record {
       near = omega arith;
-      whole = length-set (set st i v) (16 + i) mark ∙ w;
-      variables = take-set-le (i + 1) (set st i v) (16 + i) mark (omega arith) ∙ front-more st here i (pos 0) v (omega (arith, f .whole)) k e (f .variables);
+      whole = length-set (set st i v) (sentAt + i) mark ∙ w;
+      variables = take-set-le (i + 1) (set st i v) (sentAt + i) mark (omega arith) ∙ front-more st here i (pos 0) v (omega (arith, f .whole)) k e (f .variables);
       silent =
           ap (take (i + 1)) d
-          ∙ (ap (λ (k : ℕ). take k (set (drop 16 st) i mark)) (add-one i)
-          ∙ (take-suc-set (drop 16 st) i mark (simp length-drop (omega (arith, f .whole))) ∙ rw (f .silent) (replicate-append-replicate i 1 mark)));
-      clear = fault-kept (set st i v) (16 + i) mark (omega arith) ∙ (fault-kept st i v (omega arith) ∙ f .clear);
+          ∙ (ap (λ (k : ℕ). take k (set (drop sentAt st) i mark)) (add-one i)
+          ∙ (take-suc-set (drop sentAt st) i mark (simp length-drop (omega (arith, f .whole))) ∙ rw (f .silent) (replicate-append-replicate i 1 mark)));
+      clear = fault-kept (set st i v) (sentAt + i) mark (omega arith) ∙ (fault-kept st i v (omega arith) ∙ f .clear);
     }
 
 abbrev Inv-loop : tie.InvT-loop

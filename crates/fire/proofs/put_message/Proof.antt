@@ -11,7 +11,7 @@ use mir.Facts.{sfits-lit}
 use denote.Ref.{now}
 use Rattle.number.specs.Number.{mark}
 use Rattle.network.specs.Cells.{row, store}
-use Rattle.network.specs.Network.{noMessage}
+use Rattle.network.specs.Network.{heardAt, noMessage}
 use Rattle.round.specs.Round.{message}
 use Rattle.apply.specs.State.{stateOf}
 use Rattle.arith.proofs.Signs.{same-bits}
@@ -50,7 +50,7 @@ same-length c = search needs
 no-link : (c : tie.Then1) → message (now (c .before .before .args .here)) (stateOf (now (c .before .before .args .st))) (1 + c .before .before .args .b) ≡ noMessage
 no-link c =
     let s = c .before .before in
-    let d = getD (now (s .args .here)) (17 + 16 * s .args .b) (pos 0) in
+    let d = getD (now (s .args .here)) (heardAt 1 + 16 * s .args .b) (pos 0) in
     unlinked (now (s .args .here)) (stateOf (now (s .args .st))) (s .args .b) (same-bits w32 d mark (sfits-of (c .before .if12 .given)) (sfits-lit tt) (c .if1 .taken))
 
 returns : tie.Need-returns

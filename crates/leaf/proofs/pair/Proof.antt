@@ -1,7 +1,4 @@
 -- `leaf::pair` meets its contract. Assumes nothing.
-use mathlib.Core.Path.{_≡_, sym, _∙_}
-use Prim.Native.Nat.{_<_}
-use native.Mathlib.Omega.{arith}
 use borrow.Author.Needs.{needs, sfits-of}
 use Rattle.number.specs.Number.{operatorOf}
 use Rattle.apply.specs.State.{stateOf}

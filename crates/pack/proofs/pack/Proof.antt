@@ -1,6 +1,6 @@
 -- `pack::pack` meets its contract. Assumes nothing.
 use Rattle.pack.proofs.Columns.{column-none, column-more}
-use Rattle.pack.proofs.Pass.{Going, begins, fits, leaf, leaf-goes, operator, operator-goes, goes, packs}
+use Rattle.pack.proofs.Pass.{Going, begins, fits, childless, childless-goes, operator, operator-goes, goes, packs}
 use Rattle.pack.specs.Packs.{kindOf, itemOf, Column}
 use borrow.Author.Needs.{needs}
 use native.Mathlib.Omega.{arith}
@@ -42,11 +42,11 @@ element-write-kinds c = omega (arith, c .before .before .before .loop .inv .1 .l
 element-write-items : tie.Need-element-write-items Inv-loop μ-loop
 element-write-items c = omega (arith, c .before .before .before .loop .inv .2 .long)
 
-leaf-word-requires : tie.Need-leaf-word-requires Inv-loop μ-loop
-leaf-word-requires c κs =
+childless-word-requires : tie.Need-childless-word-requires Inv-loop μ-loop
+childless-word-requires c κs =
     let b4 = c .before .before .before .before in
     let b5 = b4 .before in
-    let l = b5 in leaf (l .before .before .before .before .args .t1) (l .before .before .before .before .pre .0) (l .loop .inv .0) (b4 .loop-test .taken) (c .if1 .taken)
+    let l = b5 in childless (l .before .before .before .before .args .t1) (l .before .before .before .before .pre .0) (l .loop .inv .0) (b4 .loop-test .taken) (c .if1 .taken)
 
 mul-ws : tie.Need-mul-ws Inv-loop μ-loop
 mul-ws c = search needs
@@ -118,7 +118,7 @@ loop-again c = let l = c .before .before .before .before .before in
     let g = l .before .before .before .before .pre .0 in
     let s = l .loop .inv in
     let h = c .before .before .before .before .loop-test .taken in (
-      ⊎-elim (λ w. rw (w .2, w .3) (leaf-goes t g (s .0) h (w .0 .taken) (w .1 .ensures)))
+      ⊎-elim (λ w. rw (w .2, w .3) (childless-goes t g (s .0) h (w .0 .taken) (w .1 .ensures)))
           (λ v. ⊎-elim (λ w. rw (w .9, w .10) (operator-goes t g (s .0) h (w .2 .taken) (w .4 .ensures) (w .6 .ensures) (w .7 .ensures) (w .8 .ensures)))
           (λ w. rw (w .9, w .10) (goes t g (s .0) h (w .4 .ensures) (w .5 .ensures) (w .6 .ensures) (w .7 .ensures) (w .8 .ensures))) v) (c .if1 .came),
       column-more kindOf t (omega arith) (s .1),
@@ -164,7 +164,7 @@ pack-spec =
     array-read-body
     element-write-kinds
     element-write-items
-    leaf-word-requires
+    childless-word-requires
     mul-ws
     element-write-ws
     is-field-requires

@@ -20,7 +20,7 @@ quicken-requires : tie.Need-quicken-requires
 quicken-requires c κs =
     let at-if = c .before .before .before .before in
     let p = at-if .before .before .examine .ensures .passed (at-if .if1 .left) in
-    (p .long, p .few, record { node = p .sorted })
+    (p .long, p .few, p .sorted)
 
 returns-2 : tie.Need-returns-2
 returns-2 c =

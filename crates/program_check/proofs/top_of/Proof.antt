@@ -1,6 +1,6 @@
 -- `program_check::top_of` meets its contract. Assumes nothing.
 use Rattle.program_check.proofs.Columns.{above-none, above-more}
-use Rattle.program_check.specs.Rows.{Above}
+use Rattle.program_check.specs.TreeRows.{Above}
 use borrow.Author.Needs.{needs}
 use native.Mathlib.Omega.{arith}
 use Prim.Native.Nat.{_-_, _≤_}

@@ -1,7 +1,7 @@
 -- `rep_masks::mask_of` meets its contract. Assumes nothing.
-use Rattle.operands.proofs.Leaves.{leaf-of}
+use Rattle.operands.proofs.Alone.{alone-of}
 use Rattle.operands.proofs.Below.{asks-part, asks-body}
-use Rattle.rep_masks.proofs.Notes.{leaf-mask, operator-mask}
+use Rattle.rep_masks.proofs.Notes.{alone-mask, operator-mask}
 use Rattle.rep_masks.specs.Masks.{maskOf}
 use native.Mathlib.Omega.{arith}
 use mathlib.Core.Path.{sym, _∙_}
@@ -19,7 +19,7 @@ is-requires : tie.Need-is-requires
 is-requires c κs = search needs
 
 returns : tie.Need-returns
-returns c = leaf-mask _ _ (leaf-of _ (sym (c .before .is .ensures) ∙ c .if1 .taken))
+returns c = alone-mask _ _ (alone-of _ (sym (c .before .is .ensures) ∙ c .if1 .taken))
 
 form-of-requires : tie.Need-form-of-requires
 form-of-requires c κs = search needs

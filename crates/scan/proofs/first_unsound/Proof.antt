@@ -4,6 +4,7 @@ use Prim.Native.Nat.{_≤_, _+_, _-_, _*_}
 use native.Mathlib.Omega.{arith}
 use borrow.Author.Tests.{not-true, not-false}
 use Rattle.network.specs.Network.{sensorsAt, heardAt, blockSize, networkSize}
+use Rattle.cell_rules.specs.Sound.{rowCount}
 use Rattle.scan.proofs.Blocks.{past-variables}
 use Rattle.scan.proofs.First.{Upto, start, more, fewer, next-device, lowest, all-sound}
 use Rattle.scan.proofs.first_unsound.Statement.{statement}
@@ -16,10 +17,10 @@ abbrev μ-loop2 : tie.MeasureT-loop2
 μ-loop2 net bad₀ device row slot₀ bad slot = 16 - slot
 
 abbrev Inv-loop : tie.InvT-loop
-Inv-loop net bad₀ device row₀ bad row = (bad ≡ networkSize) × (row ≤ 32) × Upto net device (heardAt 1 + row * 16)
+Inv-loop net bad₀ device row₀ bad row = (bad ≡ networkSize) × (row ≤ rowCount) × Upto net device (heardAt 1 + row * 16)
 
 abbrev μ-loop : tie.MeasureT-loop
-μ-loop net bad₀ device row₀ bad row = 32 - row
+μ-loop net bad₀ device row₀ bad row = rowCount - row
 
 abbrev Inv-search : tie.InvT-search
 Inv-search net bad₀ device₀ bad device = (bad ≡ networkSize) × (device ≤ 16) × Upto net device 0

@@ -10,8 +10,8 @@ use Rattle.program.specs.Table.{nodeLimit}
 use Rattle.operands.proofs.is.Reads as is-reads
 use Rattle.operands.proofs.operand.Reads as operand-reads
 use Rattle.operands.proofs.width_of.Reads as width-of-reads
-use Rattle.operands.proofs.Leaves.{leaf-of}
-use Rattle.scopes.proofs.Walks.{joined, part-some, part-none, walk-leaf, asks}
+use Rattle.operands.proofs.Alone.{alone-of}
+use Rattle.scopes.proofs.Walks.{joined, part-some, part-none, walk-alone, asks}
 use Rattle.scopes.proofs.lower.Reads as lower-reads
 use Rattle.scopes.proofs.own.Reads as own-reads
 use Rattle.scopes.proofs.with_own.Reads as with-own-reads
@@ -116,7 +116,7 @@ part-returns t c =
     let m : b5 .operand .result < nodeLimit = omega
     (arith, b5 .operand .ensures, (b9 .pre .1 .2 .node (b9 .args .n) (b9 .pre .1 .1) .operands (b9 .args .j) (b9 .pre .1 .0) (omega (arith, b6 .if1 .taken, b7 .width-of .ensures)))) in
     part-some (b9 .args .ws .now) (getD (b9 .args .ws .now) (b9 .args .n) 0) (b9 .args .j) (omega (arith, b6 .if1 .taken, b7 .width-of .ensures)) (b5 .operand .ensures)
-    (walk-leaf m (b9 .pre .1 .2 .node (b5 .operand .result) m) (leaf-of _ (sym (b3 .is .ensures) ∙ b2 .if2 .taken)) (c .before .own .ensures) (c .lower .ensures))
+    (walk-alone m (b9 .pre .1 .2 .node (b5 .operand .result) m) (alone-of _ (sym (b3 .is .ensures) ∙ b2 .if2 .taken)) (c .before .own .ensures) (c .lower .ensures))
 
 part-walk-requires : (t : ℕ) → part-lts.Need-walk-requires (part-calls t) (part-at t) part.Post
 part-walk-requires t c κs =

@@ -1,6 +1,6 @@
 -- `taken::children` meets its contract. Assumes nothing.
 use mathlib.Core.Path.{sym, _∙_}
-use Rattle.taken.proofs.Rows.{not-given, taken, free}
+use Rattle.taken.proofs.InTurn.{not-given, taken, free}
 use borrow.Author.Needs.{needs}
 use Rattle.taken.proofs.children.Statement.{statement}
 use Rattle.taken.proofs.children.Tie as tie

@@ -1,10 +1,10 @@
--- `encode::leaf_word` meets its contract. Assumes nothing.
+-- `encode::childless_word` meets its contract. Assumes nothing.
 use native.Mathlib.Omega.{arith}
 use mathlib.Core.Path.{refl}
-use Rattle.encode.proofs.Leaves.{leaf-call, leaf-other}
+use Rattle.encode.proofs.Shorter.{childless-call, childless-other}
 use borrow.Author.Needs.{needs}
-use Rattle.encode.proofs.leaf_word.Statement.{statement}
-use Rattle.encode.proofs.leaf_word.Tie as tie
+use Rattle.encode.proofs.childless_word.Statement.{statement}
+use Rattle.encode.proofs.childless_word.Tie as tie
 
 constant-word-requires : tie.Need-constant-word-requires
 constant-word-requires c κs = search needs
@@ -22,7 +22,7 @@ add-result : tie.Need-add-result
 add-result c = search needs
 
 returns-2 : tie.Need-returns-2
-returns-2 c = λ s t. leaf-call _ s t (c .before .before .before .before .pre) (c .if2 .taken) (omega arith) refl
+returns-2 c = λ s t. childless-call _ s t (c .before .before .before .before .pre) (c .if2 .taken) (omega arith) refl
 
 form-by-requires : tie.Need-form-by-requires
 form-by-requires c κs = search needs
@@ -46,10 +46,10 @@ returns-3 : tie.Need-returns-3
 returns-3 c =
     let b4 = c .before .before .before .before in
     let b6 = b4 .before .before in
-    λ s t. leaf-other _ s t (b6 .pre) (b4 .if1 .left) (c .before .before .if2 .left) (c .before .form-by .ensures) (omega arith) refl
+    λ s t. childless-other _ s t (b6 .pre) (b4 .if1 .left) (c .before .before .if2 .left) (c .before .form-by .ensures) (omega arith) refl
 
-pub leaf-word-spec : {M : Type 1} → statement M
-leaf-word-spec =
+pub childless-word-spec : {M : Type 1} → statement M
+childless-word-spec =
     tie.close
     (tie.spec
     constant-word-requires

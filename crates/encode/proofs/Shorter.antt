@@ -9,11 +9,11 @@ use Rattle.words.specs.Form.{operatorForm, callForm, fieldOperatorForm}
 use Rattle.shapes.specs.Kinds.{constantKind, operatorKind, callKind}
 use Rattle.nodes.specs.declared.Node.{Node}
 use Rattle.shapes.specs.Shapes.{kidsOf, byteValues}
-use Rattle.encode.specs.Parts.{formBy, itemBy, IsParts, IsWord, Leaf}
+use Rattle.encode.specs.Parts.{formBy, itemBy, IsParts, IsWord, Childless}
 use Rattle.encode.proofs.Words.{form-fits, worded}
 
-leaf-parts : {f i b w : ℕ} (x : Node) → x .kids ≡ 0 → f < 32 → i < 16 → b < byteValues → w ≡ 562949953421312 * b + 32 * i + f → IsParts f i x b w
-leaf-parts x k f i b e =
+childless-parts : {f i b w : ℕ} (x : Node) → x .kids ≡ 0 → f < 32 → i < 16 → b < byteValues → w ≡ 562949953421312 * b + 32 * i + f → IsParts f i x b w
+childless-parts x k f i b e =
     record {
       isForm = omega arith;
       isItem = omega arith;
@@ -26,9 +26,9 @@ leaf-parts x k f i b e =
     }
 
 -- a kind without children, but for a constant and a call
-leaf-kind : (kind i count : ℕ) (s t : Bool) → kind < kindCount → kidsOf kind count ≡ 0 → (kind ≡ constantKind → ⊥) → (kind ≡ callKind → ⊥)
+childless-kind : (kind i count : ℕ) (s t : Bool) → kind < kindCount → kidsOf kind count ≡ 0 → (kind ≡ constantKind → ⊥) → (kind ≡ callKind → ⊥)
     → (formBy kind false false ≡ formBy kind s t) × (i ≡ itemBy kind i)
-leaf-kind kind i count s t =
+childless-kind kind i count s t =
     by-kind {P = λ k. kidsOf k count ≡ 0 → (k ≡ constantKind → ⊥) → (k ≡ callKind → ⊥) → (formBy k false false ≡ formBy k s t) × (i ≡ itemBy k i)}
     record {
       constant = λ e n m. absurd (n refl);
@@ -47,16 +47,16 @@ leaf-kind kind i count s t =
     }
     kind
 
-pub leaf-call : {b w : ℕ} (x : Node) (s t : Bool) → Leaf x → x .kind ≡ callKind → b < byteValues → w ≡ 562949953421312 * b + callForm → IsWord x b s t w
-leaf-call x s t l k h e =
-    worded (λ z. omega arith) (rw k) (rw k) (leaf-parts {f = callForm} {i = 0} x (l .none) (omega arith) (omega arith) h (omega arith))
+pub childless-call : {b w : ℕ} (x : Node) (s t : Bool) → Childless x → x .kind ≡ callKind → b < byteValues → w ≡ 562949953421312 * b + callForm → IsWord x b s t w
+childless-call x s t l k h e =
+    worded (λ z. omega arith) (rw k) (rw k) (childless-parts {f = callForm} {i = 0} x (l .none) (omega arith) (omega arith) h (omega arith))
 
-pub leaf-other : {f b w : ℕ} (x : Node) (s t : Bool) → Leaf x → (x .kind ≡ constantKind → ⊥) → (x .kind ≡ callKind → ⊥) → f ≡ formBy (x .kind) false false
+pub childless-other : {f b w : ℕ} (x : Node) (s t : Bool) → Childless x → (x .kind ≡ constantKind → ⊥) → (x .kind ≡ callKind → ⊥) → f ≡ formBy (x .kind) false false
     → b < byteValues → w ≡ 562949953421312 * b + 32 * x .item + f → IsWord x b s t w
-leaf-other x s t l n m g h e =
-    let (o, i) = leaf-kind (x .kind) (x .item) (l .count) s t (l .fits .kind) (l .kind) n m in
+childless-other x s t l n m g h e =
+    let (o, i) = childless-kind (x .kind) (x .item) (l .count) s t (l .fits .kind) (l .kind) n m in
     worded n (g ∙ o) i
-    (leaf-parts x (l .none) (subst (λ (k : ℕ). k < 32) (sym (g ∙ o)) (form-fits (x .kind) s t (l .fits .kind)))
+    (childless-parts x (l .none) (subst (λ (k : ℕ). k < 32) (sym (g ∙ o)) (form-fits (x .kind) s t (l .fits .kind)))
     (subst (λ (k : ℕ). k < 16) (sym i) (l .fits .item)) h e)
 
 pub operator-is : {f b w : ℕ} (x : Node) (s t : Bool) → x .kind ≡ operatorKind → x .kids ≡ 2 → x .item < 16 → x .a < byteValues → x .b < byteValues → b < byteValues

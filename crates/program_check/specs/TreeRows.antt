@@ -10,7 +10,7 @@ use Rattle.program.specs.Tree.{tree, misread}
 use Rattle.program.specs.Check.{lowest, offending, useOffends, misreadIn, treeRows}
 use Rattle.words.specs.Word.{form, word}
 use Rattle.words.specs.Trees.{treeAt}
-use Rattle.words.specs.Sound.{Sorted}
+use Rattle.words.specs.Sound.{AllSorted}
 use Rattle.verdict.specs.declared.Verdict.{Verdict}
 use Rattle.verdict.specs.Pair.{pair}
 use Rattle.operands.specs.Formed.{AllFormed, Empty}
@@ -50,15 +50,15 @@ misreads t main = misread 0 [] (tree t main) ++ misreadIn t (t .definitions)
 -- what the evaluator requires of a table's words, but for the masks
 pub record Runs (t : Table) (ws : List ℕ) : Type 0 where
   pub packed : Packed t ws
-  pub sorted : (n : ℕ) → n < nodeLimit → Sorted ws n
+  pub sorted : AllSorted ws
   pub number : form (word ws (t .main)) < numberForms
 
 -- v is the verdict of the rows over all nodes
-pub record Rows (t : Table) (ws : List ℕ) (v : Verdict) : Type 0 where
+pub record TreeRows (t : Table) (ws : List ℕ) (v : Verdict) : Type 0 where
   pub verdict : pair v ≡ treeRows (tableOf t) (t .main)
   pub runs : v .number ≡ 0 → Runs t ws
 
 -- r is the lowest node of the table with these columns that offends by its use of a definition
-abbrev pub LowestUse : List ℕ → List ℕ → List ℕ → List ℕ → List ℕ → ℕ → ℕ → ℕ → Type 0
-LowestUse ws kinds items counts bodies defs n r =
+abbrev pub LowestMisuse : List ℕ → List ℕ → List ℕ → List ℕ → List ℕ → ℕ → ℕ → ℕ → Type 0
+LowestMisuse ws kinds items counts bodies defs n r =
     (t : Table) → InColumns t ws kinds items counts bodies defs n → lowest (offending (useOffends (tableOf t)) (length (tableOf t .nodes))) ≡ found r

@@ -10,8 +10,8 @@ use borrow.Author.Tests.{leb-false, eqb-true, eq-eqb, ne-eqb}
 use Rattle.shapes.specs.Kinds.{callKind}
 use Rattle.program.specs.Table as program
 use Rattle.program.specs.Table.{child, slot, keeps, definition, itemsOf, size, outside, numbers, Table, firstOf, among, beyond, takenBy, allNumbers, definitionAt}
-use Rattle.program.specs.Table.{nodeRows, definitionRows, mainRows, Entry, aNode, aDefinition, aMain, unknown, entryOf, nodeLimit, definitionLimit, kindCount}
-use Rattle.program.proofs.Tests.{either}
+use Rattle.program.specs.Table.{nodeRows, definitionRows, mainRows, TableEntry, aNode, aDefinition, aMain, unknown, entryOf, nodeLimit, definitionLimit, kindCount}
+use Rattle.decide.proofs.Picks.{neither}
 use Rattle.shapes.specs.Shapes.{leadOf, widthOf, kidsOf, inside, keptItem, slotItem, definitionItem}
 use Rattle.nodes.specs.Body.{itemOf, constantOf}
 use Rattle.taken.specs.Taken.{takenIn}
@@ -98,7 +98,7 @@ module _ (n defs : ℕ) (counts : List ℕ) (m : Taken) (t : Table) (shows : Sho
           → (takenIn (m .named) ks || itemTaken l i (m .slots) (m .kept))
           ≡ (takenBy (program.named t) ks || takenBy (allNumbers slot (t .nodes)) (cond (eqb l slotItem) (i ∷ []) []) || takenBy (allNumbers keeps (t .nodes)) (cond (eqb l keptItem) (i ∷ []) []))
       same f =
-          rw (taken-is n ks (shows .few) (either (beyond n ks) _ f .0) (shows .named), item-taken l i c h)
+          rw (taken-is n ks (shows .few) (neither (beyond n ks) _ f .0) (shows .named), item-taken l i c h)
           (sym (or-assoc (takenBy (program.named t) ks) _ _))
 
   module _ (kind : ℕ) (s : List ℕ) (known : kind < kindCount) (right : length s ≡ widthOf kind + kidsOf kind (definitionAt t (getD s 0 0) .count)) where
@@ -171,14 +171,14 @@ module _ (n defs : ℕ) (counts : List ℕ) (m : Taken) (t : Table) (shows : Sho
       (λ h. row 4 (ap (λ (k : ℕ). leb k (getD b 0 0)) (shows .nodes)) (λ h. row 5 (named-row (getD b 0 0) h) (λ h. refl)))
 
 -- the number of what a field's tag and body begin with
-abbrev pub entryNumber : Table → Entry → ℕ
+abbrev pub entryNumber : Table → TableEntry → ℕ
 entryNumber t (aNode kind s) = firstOf (nodeRows t kind s)
 entryNumber t (aDefinition s) = firstOf (definitionRows t s)
 entryNumber t (aMain s) = firstOf (mainRows t s)
 entryNumber t unknown = 1
 
 -- the entry by the tag, in the code's order
-abbrev pub byTag : ℕ → List ℕ → Entry
+abbrev pub byTag : ℕ → List ℕ → TableEntry
 byTag tag b = cond (eqb tag 2) (aDefinition b) (cond (eqb tag 3) (aMain b) (cond (eqb tag 1) (cond (eqb (length b) 0) unknown (aNode (getD b 0 0) (drop 1 b))) unknown))
 
 pub entry-is : (tag : ℕ) (b : List ℕ) → entryOf tag b ≡ byTag tag b
