@@ -24,7 +24,7 @@ use Rattle.lists.specs.Listed.{countOf}
 use Rattle.lists.proofs.Turns.{one-is-list}
 use Rattle.perform.specs.Performs.{Tested, Performs}
 use Rattle.program_check.specs.Prepares.{Ready}
-use Rattle.calls.specs.Carried.{result, readBy}
+use Rattle.calls.specs.Carried.{resultOf, readBy}
 
 -- ---- a verdict in other words
 pub no-number : {v w : Verdict} → v ≡ w → v .0 ≡ 0 → w .0 ≡ 0
@@ -76,26 +76,26 @@ unfolding firstRefusal
 later v vs h = rw (eq-eqb (v .0) 0 h) refl
 
 module _ (program : List ℕ) (n : List ℤ) (read : Read) (x : List ℤ) (r : coded.Verdict) where
-  turned : tests program n read x ≡ pair r → (r .number ≡ 0 → ⊥) → result r n x ≡ carriedOut program n read x
+  turned : tests program n read x ≡ pair r → (r .number ≡ 0 → ⊥) → resultOf r n x ≡ carriedOut program n read x
   unfolding carriedOut
   turned e h = rw (e, ne-eqb (r .number) 0 h) refl
 
-  pub by-program : pair r ≡ check program → (r .number ≡ 0 → ⊥) → result r n x ≡ carriedOut program n read x
+  pub by-program : pair r ≡ check program → (r .number ≡ 0 → ⊥) → resultOf r n x ≡ carriedOut program n read x
   unfolding tests
   by-program e h = turned (rw (← e) (first (pair r) _ h)) h
 
   module _ (p : check program .0 ≡ 0) where
-    pub by-network : pair r ≡ soundness n → (r .number ≡ 0 → ⊥) → result r n x ≡ carriedOut program n read x
+    pub by-network : pair r ≡ soundness n → (r .number ≡ 0 → ⊥) → resultOf r n x ≡ carriedOut program n read x
     unfolding tests
     by-network e h = turned (later (check program) _ p ∙ rw (← e) (first (pair r) _ h)) h
 
     module _ (s : soundness n .0 ≡ 0) where
-      pub by-list : pair r ≡ listVerdict read → (r .number ≡ 0 → ⊥) → result r n x ≡ carriedOut program n read x
+      pub by-list : pair r ≡ listVerdict read → (r .number ≡ 0 → ⊥) → resultOf r n x ≡ carriedOut program n read x
       unfolding tests
       by-list e h = turned (later (check program) _ p ∙ later (soundness n) _ s ∙ rw (← e) (first (pair r) _ h)) h
 
       module _ (l : listVerdict read .0 ≡ 0) (k : ℕ) (c : k ≡ length (entriesOf read)) where
-        pub by-room : pair r ≡ (13, 0) → length x / answerWidth < k → result r n x ≡ carriedOut program n read x
+        pub by-room : pair r ≡ (13, 0) → length x / answerWidth < k → resultOf r n x ≡ carriedOut program n read x
         unfolding tests
         by-room e h = turned (later (check program) _ p ∙ later (soundness n) _ s ∙ later (listVerdict read) _ l ∙ rw (short (entriesOf read) x k c h, e)
             (first (13, 0) _ (λ z. omega arith))) (λ z. omega (arith, ap (λ (v : Verdict). v .0) e))
@@ -129,7 +129,7 @@ module _ (program : List ℕ) {ws us : List ℕ} {main : ℕ} (n : List ℤ) (s 
   unfolding tests firstRefusal
   none-refuses p = rw (eq-eqb (check program .0) 0 p, eq-eqb (soundness n .0) 0 q, eq-eqb (listVerdict (readBy b s) .0) 0 listed, roomy) refl
 
-  pub carried : {n′ x′ : List ℤ} (r : coded.Verdict) → pair r ≡ (0, 0) → check program .0 ≡ 0 → Performs (treeAt ws main) n (entriesOf (readList s)) x n′ x′ → result r n′ x′ ≡
+  pub carried : {n′ x′ : List ℤ} (r : coded.Verdict) → pair r ≡ (0, 0) → check program .0 ≡ 0 → Performs (treeAt ws main) n (entriesOf (readList s)) x n′ x′ → resultOf r n′ x′ ≡
       carriedOut program n (readBy b s) x
   unfolding carriedOut performed
   carried r v p f = rw (none-refuses p, v, f .network, f .answers, list-is, t .tree) refl

@@ -9,8 +9,8 @@ use Rattle.wire.specs.Wire.{fieldsOf}
 use Rattle.event.specs.Event.{Read, readOne, readList}
 use Rattle.event.specs.Calls.{Result}
 
-abbrev pub result : Verdict → List ℤ → List ℤ → Result
-result v network space = record { verdict = pair v; network = network; space = space }
+abbrev pub resultOf : Verdict → List ℤ → List ℤ → Result
+resultOf v network space = record { verdict = pair v; network = network; space = space }
 
 -- how each call reads its list: one event, or any number of them
 abbrev pub readBy : Bool → List ℕ → Read

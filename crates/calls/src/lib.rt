@@ -2,7 +2,7 @@
 ghost use mathlib.Core.Path.{_≡_};
 ghost use Rattle.event.specs.Calls.{carriedOut, oneEvent, run as runOf};
 ghost use Rattle.lists.specs.Listed.{countOf};
-ghost use Rattle.calls.specs.Carried.{result, readBy};
+ghost use Rattle.calls.specs.Carried.{resultOf, readBy};
 
 // Counts a list of any number of events, or of exactly one.
 fn count(list: &[u8], single: bool) -> lists::Counted
@@ -22,7 +22,7 @@ fn carry_out(
     single: bool,
     space: &mut [i32],
 ) -> verdict::Verdict
-    ensures { λ r. ⌜ result r (now (network .exit)) (now (space .exit)) ≡ carriedOut (now (program .entry)) (now (network .entry)) (readBy single (now (list .entry))) (now (space .entry)) ⌝ }
+    ensures { λ r. ⌜ resultOf r (now (network .exit)) (now (space .exit)) ≡ carriedOut (now (program .entry)) (now (network .entry)) (readBy single (now (list .entry))) (now (space .entry)) ⌝ }
 {
     let mut ws = [0; layout::NODES];
     let mut us = [0; layout::NODES];
@@ -51,14 +51,14 @@ pub fn event(
     list: &[u8],
     space: &mut [i32],
 ) -> verdict::Verdict
-    ensures { λ r. ⌜ result r (now (network .exit)) (now (space .exit)) ≡ oneEvent (now (program .entry)) (now (network .entry)) (now (list .entry)) (now (space .entry)) ⌝ }
+    ensures { λ r. ⌜ resultOf r (now (network .exit)) (now (space .exit)) ≡ oneEvent (now (program .entry)) (now (network .entry)) (now (list .entry)) (now (space .entry)) ⌝ }
 {
     carry_out(program, network, list, true, space)
 }
 
 // Does every event of a list, in order.
 pub fn run(program: &[u8], network: &mut [i32], list: &[u8], space: &mut [i32]) -> verdict::Verdict
-    ensures { λ r. ⌜ result r (now (network .exit)) (now (space .exit)) ≡ runOf (now (program .entry)) (now (network .entry)) (now (list .entry)) (now (space .entry)) ⌝ }
+    ensures { λ r. ⌜ resultOf r (now (network .exit)) (now (space .exit)) ≡ runOf (now (program .entry)) (now (network .entry)) (now (list .entry)) (now (space .entry)) ⌝ }
 {
     carry_out(program, network, list, false, space)
 }

@@ -4,7 +4,7 @@ ghost use Rattle.program.specs.Check.{check};
 ghost use Rattle.network.specs.Network.{freshCall};
 ghost use Rattle.event.specs.Calls.{oneEvent, run};
 ghost use Rattle.verdict.specs.Pair.{pair};
-ghost use Rattle.calls.specs.Carried.{result};
+ghost use Rattle.calls.specs.Carried.{resultOf};
 ghost use Rattle.both.specs.Both.{Both, first, second};
 
 // Checks a program table: 0 and 0, or the refusal and its place.
@@ -31,7 +31,7 @@ pub extern "C" fn cuddystove_event(
     list: &[u8],
     space: &mut [i32],
 ) -> verdict::Verdict
-    ensures { λ r. ⌜ result r (now (network .exit)) (now (space .exit)) ≡ oneEvent (now (program .entry)) (now (network .entry)) (now (list .entry)) (now (space .entry)) ⌝ }
+    ensures { λ r. ⌜ resultOf r (now (network .exit)) (now (space .exit)) ≡ oneEvent (now (program .entry)) (now (network .entry)) (now (list .entry)) (now (space .entry)) ⌝ }
 {
     calls::event(program, network, list, space)
 }
@@ -44,7 +44,7 @@ pub extern "C" fn cuddystove_run(
     list: &[u8],
     space: &mut [i32],
 ) -> verdict::Verdict
-    ensures { λ r. ⌜ result r (now (network .exit)) (now (space .exit)) ≡ run (now (program .entry)) (now (network .entry)) (now (list .entry)) (now (space .entry)) ⌝ }
+    ensures { λ r. ⌜ resultOf r (now (network .exit)) (now (space .exit)) ≡ run (now (program .entry)) (now (network .entry)) (now (list .entry)) (now (space .entry)) ⌝ }
 {
     calls::run(program, network, list, space)
 }

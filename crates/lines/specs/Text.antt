@@ -45,8 +45,8 @@ lines i (suc n) cells = line i (getD cells (answerWidth * i) (pos 0)) (getD cell
 abbrev pub word : List ℕ
 word = 114 ∷ 101 ∷ 102 ∷ 117 ∷ 115 ∷ 101 ∷ 100 ∷ 32 ∷ []
 
-unfoldable pub refused : ℕ → ℕ → List ℕ
-refused number place = word ++ decimal number ++ space ++ decimal place ++ lineEnd
+unfoldable pub refusedLine : ℕ → ℕ → List ℕ
+refusedLine number place = word ++ decimal number ++ space ++ decimal place ++ lineEnd
 
 -- bytes in which every line fits
 abbrev pub lineRoom : ℕ

@@ -4,7 +4,7 @@ ghost use Prim.Native.Nat.{_+_, _*_, _≤_};
 ghost use lib.ListN.{length};
 ghost use lib.IntN.{natAbs};
 ghost use Rattle.event.specs.Calls.{answerWidth};
-ghost use Rattle.lines.specs.Text.{lineRoom, decimal, signedText, line, lines, refused, Put, Begins};
+ghost use Rattle.lines.specs.Text.{lineRoom, decimal, signedText, line, lines, refusedLine, Put, Begins};
 
 // Puts a text at `at` into the buffer, and answers where the next one goes. The same of each `put_` below.
 fn put(text: &[u8], out: &mut [u8], at: usize) -> usize
@@ -66,7 +66,7 @@ fn put_line(i: u64, code: i32, value: i32, out: &mut [u8], at: usize) -> usize
 // The line of a refusal: how many bytes it has.
 pub fn put_refused(number: u64, place: u64, out: &mut [u8]) -> usize
     requires { ⌜ lineRoom ≤ length (now out) ⌝ }
-    ensures { λ r. ⌜ Begins (now (out .exit)) r (refused number place) ⌝ }
+    ensures { λ r. ⌜ Begins (now (out .exit)) r (refusedLine number place) ⌝ }
 {
     let at = put(b"refused ", out, 0);
     let at = put_decimal(number, out, at);

@@ -13,8 +13,8 @@ use Rattle.program.specs.Check.{Verdict}
 use Rattle.network.specs.Network.{networkSize, fresh, freshCall}
 use Rattle.event.specs.Event.{Read, readList, entriesOf}
 use Rattle.event.specs.Calls.{answerWidth, Result, firstRefusal, tests, carriedOut, run}
-use Rattle.calls.specs.Carried.{result}
-use Rattle.lines.specs.Text.{lines, refused}
+use Rattle.calls.specs.Carried.{resultOf}
+use Rattle.lines.specs.Text.{lines, refusedLine}
 use Rattle.shift.specs.Replayed.{blank, outcome, printed, replayed}
 
 -- the network is fresh before the run
@@ -56,19 +56,19 @@ roomy : (b : Bool) → cond {A = ℕ × ℕ} b (0, 0) (13, 0) .0 ≡ 0 → b ≡
 roomy true h = refl
 roomy false h = absurd (omega arith)
 
-module _ (program list : List ℕ) (v : coded.Verdict) (net space : List ℤ) (ran : result v net space ≡ outcome program list) where
+module _ (program list : List ℕ) (v : coded.Verdict) (net space : List ℤ) (ran : resultOf v net space ≡ outcome program list) where
   n : ℕ
   n = length (entriesOf (readList list))
 
-  pub turned : (v .number ≡ 0 → ⊥) → refused (v .number) (v .place) ≡ replayed program list
+  pub turned : (v .number ≡ 0 → ⊥) → refusedLine (v .number) (v .place) ≡ replayed program list
   unfolding replayed n
-  turned h = ap (λ (b : Bool). cond b (lines 0 n space) (refused (v .number) (v .place))) (sym (ne-eqb (v .number) 0 h)) ∙ ap (printed n) ran
+  turned h = ap (λ (b : Bool). cond b (lines 0 n space) (refusedLine (v .number) (v .place))) (sym (ne-eqb (v .number) 0 h)) ∙ ap (printed n) ran
 
   pub done : (k : ℕ) → k ≡ length (entriesOf (readList list)) → v .number ≡ 0 → lines 0 k space ≡ replayed program list
   unfolding replayed n
   done k e h =
       ap (λ (m : ℕ). lines 0 m space) e
-      ∙ ap (λ (b : Bool). cond b (lines 0 n space) (refused (v .number) (v .place))) (sym (eq-eqb (v .number) 0 h)) ∙ ap (printed n) ran
+      ∙ ap (λ (b : Bool). cond b (lines 0 n space) (refusedLine (v .number) (v .place))) (sym (eq-eqb (v .number) 0 h)) ∙ ap (printed n) ran
 
   pub fits : (k : ℕ) → k ≡ length (entriesOf (readList list)) → v .number ≡ 0 → answerWidth * k ≤ length blank
   unfolding outcome run tests

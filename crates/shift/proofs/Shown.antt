@@ -7,12 +7,12 @@ use Rattle.event.proofs.Passed.{run-performed}
 use Rattle.paper.specs.Programs.{counterHex}
 use Rattle.paper.proofs.Computed.{computed}
 use Rattle.paper.proofs.Fresh.{fresh-sound}
-use Rattle.lines.specs.Text.{spelt, decimal, signedText, line, lines, refused}
+use Rattle.lines.specs.Text.{spelt, decimal, signedText, line, lines, refusedLine}
 use Rattle.shift.specs.Replayed.{blank, outcome, printed, replayed}
 use Rattle.shift.specs.Example.{events, Example}
 
 pub shown : Example
-unfolding computed run carriedOut tests firstRefusal outcome replayed spelt decimal signedText line lines refused
+unfolding computed run carriedOut tests firstRefusal outcome replayed spelt decimal signedText line lines refusedLine
 shown =
     record {
       prints = ap (printed 4) (run-performed counterHex fresh events blank _ refl fresh-sound refl refl);

@@ -8,7 +8,7 @@ use lib.IntN.{ℤ, pos}
 use Rattle.network.specs.Network.{fresh}
 use Rattle.event.specs.Event.{readList, entriesOf}
 use Rattle.event.specs.Calls.{answerWidth, Result, run}
-use Rattle.lines.specs.Text.{lineRoom, lines, refused}
+use Rattle.lines.specs.Text.{lineRoom, lines, refusedLine}
 
 -- bytes of a file, and events in it, at the most: an event takes 4 bytes or more
 abbrev pub fileSize : ℕ
@@ -30,7 +30,7 @@ outcome program list = run program fresh list blank
 
 -- "prints per event its index from 0, code and value, or, where a file or call is refused, the one line `refused N P`"
 abbrev pub printed : ℕ → Result → List ℕ
-printed n r = cond (eqb (r .verdict .0) 0) (lines 0 n (r .space)) (refused (r .verdict .0) (r .verdict .1))
+printed n r = cond (eqb (r .verdict .0) 0) (lines 0 n (r .space)) (refusedLine (r .verdict .0) (r .verdict .1))
 
 unfoldable pub replayed : List ℕ → List ℕ → List ℕ
 replayed program list = printed (length (entriesOf (readList list))) (outcome program list)

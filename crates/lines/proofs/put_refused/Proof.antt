@@ -2,7 +2,7 @@
 use native.Mathlib.Omega.{arith}
 use borrow.Author.Needs.{needs}
 use Rattle.lines.proofs.Puts.{both, first}
-use Rattle.lines.specs.Text.{refused}
+use Rattle.lines.specs.Text.{refusedLine}
 use Rattle.lines.proofs.put_refused.Statement.{statement}
 use Rattle.lines.proofs.put_refused.Tie as tie
 
@@ -34,7 +34,7 @@ same-length : tie.Need-same-length
 same-length c = search needs
 
 returns : tie.Need-returns
-unfolding refused
+unfolding refusedLine
 returns c =
     let at-put3 = c .before .before in
     let at-put-decimal2 = at-put3 .before .before .before .before .before in

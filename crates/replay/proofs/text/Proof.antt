@@ -7,7 +7,7 @@ use borrow.Author.Needs.{needs}
 use Rattle.files.specs.declared.Whole.{Whole}
 use Rattle.files.specs.declared.Whole.the-variants.{Bytes, Refused}
 use Rattle.files.specs.Whole.{Shorter}
-use Rattle.lines.specs.Text.{refused, Begins}
+use Rattle.lines.specs.Text.{refusedLine, Begins}
 use Rattle.shift.specs.Replayed.{replayed}
 use Rattle.replay.specs.Text.{textOf}
 use Rattle.replay.proofs.text.Statement.{statement}
@@ -18,11 +18,11 @@ counted : (w : Whole) (n : ℕ) (buf : List ℕ) → w ≡ Bytes n → Shorter w
 counted w n buf e h = subst (λ (x : Whole). Shorter x buf) e h .1
 
 -- the text, by what the reads answered
-no-program : (a b : Whole) (program list out : List ℕ) (r : ℕ) → a ≡ Refused → Begins out r (refused 18 0) → Begins out r (textOf a program b list)
+no-program : (a b : Whole) (program list out : List ℕ) (r : ℕ) → a ≡ Refused → Begins out r (refusedLine 18 0) → Begins out r (textOf a program b list)
 unfolding textOf
 no-program a b program list out r e h = rw e h
 
-no-list : (a b : Whole) (p : ℕ) (program list out : List ℕ) (r : ℕ) → a ≡ Bytes p → b ≡ Refused → Begins out r (refused 18 0)
+no-list : (a b : Whole) (p : ℕ) (program list out : List ℕ) (r : ℕ) → a ≡ Bytes p → b ≡ Refused → Begins out r (refusedLine 18 0)
     → Begins out r (textOf a program b list)
 unfolding textOf
 no-list a b p program list out r e f h = rw (e, f) h

@@ -11,7 +11,7 @@ use Rattle.verdict.specs.Pair.{pair}
 use Rattle.network.specs.Network.{networkSize}
 use Rattle.event.specs.Event.{readList, entriesOf}
 use Rattle.event.specs.Calls.{answerWidth, run}
-use Rattle.calls.specs.Carried.{result}
+use Rattle.calls.specs.Carried.{resultOf}
 use Rattle.calls.proofs.Laws.{of-events}
 use Rattle.shift.specs.Replayed.{mostEvents, blank, outcome}
 use Rattle.shift.proofs.Laws.{made, turned, done, fits}
@@ -28,7 +28,7 @@ abbrev space : tie.After-run → List ℤ
 space c = c .run .last .1 .1 .1 .0
 
 -- the run came to what the definition says
-ran : (c : tie.After-run) → result (c .run .result) (network c) (space c) ≡ outcome (now (start c .args .program)) (now (start c .args .list))
+ran : (c : tie.After-run) → resultOf (c .run .result) (network c) (space c) ≡ outcome (now (start c .args .program)) (now (start c .args .list))
 unfolding outcome
 ran c =
     let f = c .before .before .before .before .fresh in
