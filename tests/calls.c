@@ -4,6 +4,7 @@
 // failed and 'N passed, M failed'.
 #define _GNU_SOURCE
 #include "cuddystove.h"
+#include "bytes.h"
 #include <string.h>
 #include <sys/mman.h>
 #include <unistd.h>
@@ -41,13 +42,21 @@ static void make_rooms(void) {
         room[s] = all + PAGE;
     }
 }
-// Where a slice of so many bytes stands, against the page before or the page after. An empty one at the end points to that page.
-static void *at(enum slice s, size_t bytes, int end) { return room[s] + (end ? ROOM - bytes : 0); }
-static void *lend(enum slice s, const void *from, size_t bytes, int end) {
+// Where a slice of so many bytes stands: against the page before, or the page after, to which an empty one then points; or, the third
+// way, an empty one has a null pointer and all others are as in the first.
+enum place { FIRST, LAST, NULLS, PLACES };
+static void *at(enum slice s, size_t bytes, enum place place) {
+    if (place == NULLS && bytes == 0) return NULL;
+    return room[s] + (place == LAST ? ROOM - bytes : 0);
+}
+static void *lend(enum slice s, const void *from, size_t bytes, enum place place) {
     if (bytes > ROOM || mprotect(room[s], ROOM, PROT_READ | PROT_WRITE) != 0) _exit(5);
-    if (bytes > 0) memcpy(at(s, bytes, end), from, bytes);
+    if (bytes > 0) memcpy(at(s, bytes, place), from, bytes);
     if ((s == PROGRAM || s == LIST || s == LIST2) && mprotect(room[s], ROOM, PROT_READ) != 0) _exit(6);
-    return at(s, bytes, end);
+    return at(s, bytes, place);
+}
+static int holds(enum slice s, const void *expected, size_t bytes, enum place place) {
+    return bytes == 0 || memcmp(at(s, bytes, place), expected, bytes) == 0;
 }
 
 // ---- One case: what is lent, and what should come back
@@ -61,16 +70,16 @@ static size_t network_length, space_length;
 #define PROGRAM_IS(bytes) (program = (bytes), program_length = sizeof(bytes))
 
 // What one run should leave: the network `after`, the space `answered`.
-static int left(enum slice net, enum slice spc, int end) {
-    return memcmp(at(net, 4 * network_length, end), after, 4 * network_length) == 0 &&
-           memcmp(at(spc, 4 * space_length, end), answered, 4 * space_length) == 0;
+static int left(enum slice net, enum slice spc, enum place place) {
+    return holds(net, after, 4 * network_length, place) && holds(spc, answered, 4 * space_length, place);
 }
 
 static void expect(const char *what, enum call call, const uint8_t *list, size_t list_length, uint32_t number, size_t place) {
     int good = 1;
-    for (int end = 0; end < 2; end++) {
-        const uint8_t *p = lend(PROGRAM, program, program_length, end), *l = lend(LIST, list, list_length, end);
-        int32_t *n = lend(NETWORK, network, 4 * network_length, end), *s = lend(SPACE, space, 4 * space_length, end);
+    for (int i = FIRST; i < PLACES; i++) {
+        const enum place there = (enum place)i;
+        const uint8_t *p = lend(PROGRAM, program, program_length, there), *l = lend(LIST, list, list_length, there);
+        int32_t *n = lend(NETWORK, network, 4 * network_length, there), *s = lend(SPACE, space, 4 * space_length, there);
         struct cuddystove_verdict v = {0, 0};
         switch (call) {
         case CHECK: v = cuddystove_check(p, program_length); break;
@@ -79,17 +88,17 @@ static void expect(const char *what, enum call call, const uint8_t *list, size_t
         case RUN: v = cuddystove_run(p, program_length, n, network_length, l, list_length, s, space_length); break;
         case BOTH: {
             // The list on both sides: both must do what one run does.
-            const uint8_t *k = lend(LIST2, list, list_length, end);
-            int32_t *m = lend(NETWORK2, network, 4 * network_length, end), *t = lend(SPACE2, space, 4 * space_length, end);
+            const uint8_t *k = lend(LIST2, list, list_length, there);
+            int32_t *m = lend(NETWORK2, network, 4 * network_length, there), *t = lend(SPACE2, space, 4 * space_length, there);
             struct cuddystove_verdicts w =
                 cuddystove_run_both(p, program_length, n, network_length, m, network_length, l, list_length, k, list_length, s,
                                     space_length, t, space_length);
-            good = good && w.number2 == number && w.place2 == place && left(NETWORK2, SPACE2, end);
+            good = good && w.number2 == number && w.place2 == place && left(NETWORK2, SPACE2, there);
             v.number = w.number1;
             v.place = w.place1;
         }
         }
-        good = good && v.number == number && v.place == place && left(NETWORK, SPACE, end);
+        good = good && v.number == number && v.place == place && left(NETWORK, SPACE, there);
     }
     judge(what, good);
 }
@@ -102,8 +111,8 @@ static void same(void) {
 static void fresh(size_t space_now) {
     for (int i = 0; i <= CUDDYSTOVE_CELLS; i++) network[i] = CUDDYSTOVE_MARK;
     for (int a = 1; a <= CUDDYSTOVE_DEVICES; a++) {
-        network[CUDDYSTOVE_AT_SENSORS(a)] = 0;
-        for (int b = 1; b <= CUDDYSTOVE_DEVICES; b++) network[CUDDYSTOVE_AT_IS_PENDING(a, b)] = 0;
+        network[cuddystove_at_sensors(a)] = 0;
+        for (int b = 1; b <= CUDDYSTOVE_DEVICES; b++) network[cuddystove_at_is_pending(a, b)] = 0;
     }
     for (int i = 0; i < SPACE_ROOM; i++) space[i] = UNTOUCHED;
     network_length = CUDDYSTOVE_CELLS;
@@ -128,18 +137,18 @@ static void one_event(const char *what, const uint8_t *list, size_t length, int3
 }
 #define LIST(...) (const uint8_t[]){__VA_ARGS__}, sizeof((const uint8_t[]){__VA_ARGS__})
 #define EMPTY (const uint8_t *)"", 0
-#define BAD_TABLE(what, number, place, ...)                          \
-    do {                                                             \
-        static const uint8_t table[] = {__VA_ARGS__};                \
-        PROGRAM_IS(table);                                           \
-        fresh(2);                                                    \
-        refused_call(what, CHECK, EMPTY, number, place);             \
-        refused_call(what, EVENT, LIST(CUDDYSTOVE_FIRE(1)), number, place); \
-        refused_call(what, RUN, EMPTY, number, place);               \
-        refused_call(what, BOTH, LIST(9), number, place);            \
+#define BAD_TABLE(what, number, place, ...)                      \
+    do {                                                         \
+        static const uint8_t table[] = {__VA_ARGS__};            \
+        PROGRAM_IS(table);                                       \
+        fresh(2);                                                \
+        refused_call(what, CHECK, EMPTY, number, place);         \
+        refused_call(what, EVENT, LIST(FIRE(1)), number, place); \
+        refused_call(what, RUN, EMPTY, number, place);           \
+        refused_call(what, BOTH, LIST(9), number, place);        \
     } while (0)
 
-#define CONST(n) 1, 0, 5, CUDDYSTOVE_CONSTANT, CUDDYSTOVE_BYTES(n)
+#define CONST(n) 1, 0, 5, CUDDYSTOVE_CONSTANT, BYTES(n)
 #define PARAMETER(p) 1, 0, 2, CUDDYSTOVE_PARAMETER, p
 #define VARIABLE(v) 1, 0, 2, CUDDYSTOVE_VARIABLE, v
 #define OPERATOR(o, left, right) 1, 0, 4, CUDDYSTOVE_OPERATOR, CUDDYSTOVE_##o, left, right
@@ -284,7 +293,7 @@ static void programs(void) {
     }
     program_length = length;
     refused_call("10", CHECK, EMPTY, 10, 0);
-    refused_call("10", EVENT, LIST(CUDDYSTOVE_FIRE(1)), 10, 0);
+    refused_call("10", EVENT, LIST(FIRE(1)), 10, 0);
 }
 
 static void networks(void) {
@@ -296,33 +305,33 @@ static void networks(void) {
         fresh(2);
         network_length = length;
         refused_call("fresh of a wrong length", FRESH, EMPTY, 11, 0);
-        refused_call("event on a wrong length", EVENT, LIST(CUDDYSTOVE_FIRE(1)), 11, 0);
+        refused_call("event on a wrong length", EVENT, LIST(FIRE(1)), 11, 0);
         refused_call("run on a wrong length", RUN, EMPTY, 11, 0);
     }
-    static const struct { size_t cell; int32_t number; } unsound[] = {
-        {CUDDYSTOVE_AT_SENSORS(2), 65536},
-        {CUDDYSTOVE_AT_DISTANCE(3, 4), CUDDYSTOVE_FARTHEST + 1},
-        {CUDDYSTOVE_AT_DISTANCE(3, 5), -1},
-        {CUDDYSTOVE_AT_DISTANCE(5, 5), 0},
-        {CUDDYSTOVE_AT_IS_PENDING(6, 7), 2},
-        {CUDDYSTOVE_AT_PENDING(16, 15, 15), 0},
-        {CUDDYSTOVE_AT_PENDING(16, 16, 15), 0},
+    const struct { size_t cell; int32_t number; } unsound[] = {
+        {cuddystove_at_sensors(2), 65536},
+        {cuddystove_at_distance(3, 4), CUDDYSTOVE_FARTHEST + 1},
+        {cuddystove_at_distance(3, 5), -1},
+        {cuddystove_at_distance(5, 5), 0},
+        {cuddystove_at_is_pending(6, 7), 2},
+        {cuddystove_at_pending(16, 15, 15), 0},
+        {cuddystove_at_pending(16, 16, 15), 0},
     };
     for (size_t i = 0; i < sizeof unsound / sizeof unsound[0]; i++) {
         fresh(2);
         network[unsound[i].cell] = unsound[i].number;
-        refused_call("11", EVENT, LIST(CUDDYSTOVE_FIRE(1)), 11, unsound[i].cell);
+        refused_call("11", EVENT, LIST(FIRE(1)), 11, unsound[i].cell);
         refused_call("11", RUN, EMPTY, 11, unsound[i].cell);
         refused_call("11", BOTH, EMPTY, 11, unsound[i].cell);
     }
     // The lowest of two is named; the program is tested before the network, and the network before the list.
     fresh(2);
-    network[CUDDYSTOVE_AT_SENSORS(2)] = -1;
-    network[CUDDYSTOVE_AT_SENSORS(3)] = -1;
-    refused_call("11 before 12", EVENT, LIST(9), 11, CUDDYSTOVE_AT_SENSORS(2));
-    refused_call("11 before 12", RUN, LIST(9), 11, CUDDYSTOVE_AT_SENSORS(2));
+    network[cuddystove_at_sensors(2)] = -1;
+    network[cuddystove_at_sensors(3)] = -1;
+    refused_call("11 before 12", EVENT, LIST(9), 11, cuddystove_at_sensors(2));
+    refused_call("11 before 12", RUN, LIST(9), 11, cuddystove_at_sensors(2));
     program_length--;
-    refused_call("1 before 11", EVENT, LIST(CUDDYSTOVE_FIRE(1)), 1, 5);
+    refused_call("1 before 11", EVENT, LIST(FIRE(1)), 1, 5);
     refused_call("1 before 11", RUN, EMPTY, 1, 5);
 }
 
@@ -330,16 +339,16 @@ static void lists(void) {
     PROGRAM_IS(counter);
     fresh(4);
     refused_call("12, no event", EVENT, EMPTY, 12, 0);
-    refused_call("12, a byte after the event", EVENT, LIST(CUDDYSTOVE_FIRE(1), 0), 12, 1);
+    refused_call("12, a byte after the event", EVENT, LIST(FIRE(1), 0), 12, 1);
     refused_call("12, unknown tag", EVENT, LIST(0x15, 0, 1, 1), 12, 0);
-    refused_call("12, cut short", RUN, LIST(CUDDYSTOVE_FIRE(1), 0x10), 12, 1);
-    refused_call("12, wrong length", RUN, LIST(CUDDYSTOVE_FIRE(1), CUDDYSTOVE_FIRE(2), 0x10, 0, 2, 1, 1), 12, 2);
-    refused_call("12", BOTH, LIST(CUDDYSTOVE_FIRE(1), 0x10, 0), 12, 1);
-    refused_call("13", RUN, LIST(CUDDYSTOVE_FIRE(1), CUDDYSTOVE_FIRE(1), CUDDYSTOVE_FIRE(1)), 13, 0);
-    refused_call("13", BOTH, LIST(CUDDYSTOVE_FIRE(1), CUDDYSTOVE_FIRE(1), CUDDYSTOVE_FIRE(1)), 13, 0);
+    refused_call("12, cut short", RUN, LIST(FIRE(1), 0x10), 12, 1);
+    refused_call("12, wrong length", RUN, LIST(FIRE(1), FIRE(2), 0x10, 0, 2, 1, 1), 12, 2);
+    refused_call("12", BOTH, LIST(FIRE(1), 0x10, 0), 12, 1);
+    refused_call("13", RUN, LIST(FIRE(1), FIRE(1), FIRE(1)), 13, 0);
+    refused_call("13", BOTH, LIST(FIRE(1), FIRE(1), FIRE(1)), 13, 0);
     for (size_t short_space = 0; short_space < 2; short_space++) {
         fresh(short_space);
-        refused_call("13", EVENT, LIST(CUDDYSTOVE_FIRE(1)), 13, 0);
+        refused_call("13", EVENT, LIST(FIRE(1)), 13, 0);
     }
     fresh(0);
     expect("an empty list", RUN, EMPTY, 0, 0);
@@ -352,66 +361,66 @@ static void lists(void) {
     answer(1, CUDDYSTOVE_ITSELF, 0);
     answer(2, 0, 1);
     answer(3, CUDDYSTOVE_NOTHING_PENDING, 0);
-    after[CUDDYSTOVE_AT_VARIABLE(1, 0)] = 1;
-    expect("01's list", RUN, LIST(CUDDYSTOVE_FIRE(1), CUDDYSTOVE_DELIVER(1, 1), CUDDYSTOVE_FIRE(1), CUDDYSTOVE_DELIVER(1, 2)), 0, 0);
-    expect("01's list", BOTH, LIST(CUDDYSTOVE_FIRE(1), CUDDYSTOVE_DELIVER(1, 1), CUDDYSTOVE_FIRE(1), CUDDYSTOVE_DELIVER(1, 2)), 0, 0);
+    after[cuddystove_at_variable(1, 0)] = 1;
+    expect("01's list", RUN, LIST(FIRE(1), DELIVER(1, 1), FIRE(1), DELIVER(1, 2)), 0, 0);
+    expect("01's list", BOTH, LIST(FIRE(1), DELIVER(1, 1), FIRE(1), DELIVER(1, 2)), 0, 0);
 }
 
 // Each event alone: the cells that it changes, and no others.
 static void events(void) {
     PROGRAM_IS(gossip);
     fresh(3);
-    one_event("16", LIST(CUDDYSTOVE_DELIVER(2, 9)), CUDDYSTOVE_NOTHING_PENDING, 0);
-    one_event("16", LIST(CUDDYSTOVE_LOSE(2, 9)), CUDDYSTOVE_NOTHING_PENDING, 0);
-    after[CUDDYSTOVE_AT_DISTANCE(2, 9)] = CUDDYSTOVE_FARTHEST;
-    one_event("link", LIST(CUDDYSTOVE_LINK(2, 9, CUDDYSTOVE_FARTHEST)), 0, 0);
-    after[CUDDYSTOVE_AT_SENSORS(2)] = 1 << 15;
-    one_event("signal", LIST(CUDDYSTOVE_SIGNAL(2, 15, 1)), 0, 0);
-    after[CUDDYSTOVE_AT_IS_PENDING(2, 9)] = 1;
-    after[CUDDYSTOVE_AT_PENDING(2, 9, 3)] = 5;
-    one_event("fire", LIST(CUDDYSTOVE_FIRE(2)), 0, 100);
-    after[CUDDYSTOVE_AT_IS_PENDING(2, 9)] = 0;
-    after[CUDDYSTOVE_AT_PENDING(2, 9, 3)] = CUDDYSTOVE_MARK;
-    after[CUDDYSTOVE_AT_HEARD(9, 2, 3)] = 5;
-    one_event("deliver", LIST(CUDDYSTOVE_DELIVER(2, 9)), 0, 0);
-    one_event("fire of one that heard", LIST(CUDDYSTOVE_FIRE(9)), 0, 105);
-    after[CUDDYSTOVE_AT_IS_PENDING(2, 9)] = 1;
-    after[CUDDYSTOVE_AT_PENDING(2, 9, 3)] = 5;
-    one_event("fire", LIST(CUDDYSTOVE_FIRE(2)), 0, 100);
-    after[CUDDYSTOVE_AT_IS_PENDING(2, 9)] = 0;
-    after[CUDDYSTOVE_AT_PENDING(2, 9, 3)] = CUDDYSTOVE_MARK;
-    one_event("lose", LIST(CUDDYSTOVE_LOSE(2, 9)), 0, 0);
-    after[CUDDYSTOVE_AT_IS_PENDING(2, 9)] = 1;
-    after[CUDDYSTOVE_AT_PENDING(2, 9, 3)] = 5;
-    one_event("fire", LIST(CUDDYSTOVE_FIRE(2)), 0, 100);
-    after[CUDDYSTOVE_AT_DISTANCE(2, 9)] = 0;
-    one_event("another distance, a message pending", LIST(CUDDYSTOVE_LINK(2, 9, 0)), 0, 0);
-    after[CUDDYSTOVE_AT_DISTANCE(2, 9)] = CUDDYSTOVE_MARK;
-    one_event("the end of a link, a message pending", LIST(CUDDYSTOVE_LINK(2, 9, CUDDYSTOVE_MARK)), 0, 0);
-    after[CUDDYSTOVE_AT_IS_PENDING(2, 9)] = 0;
-    after[CUDDYSTOVE_AT_PENDING(2, 9, 3)] = CUDDYSTOVE_MARK;
-    one_event("fire without a link", LIST(CUDDYSTOVE_FIRE(2)), 0, 100);
-    after[CUDDYSTOVE_AT_SENSORS(2)] = 1 << 15 | 1;
-    one_event("signal another", LIST(CUDDYSTOVE_SIGNAL(2, 0, 1)), 0, 0);
-    after[CUDDYSTOVE_AT_SENSORS(2)] = 1;
-    one_event("signal off", LIST(CUDDYSTOVE_SIGNAL(2, 15, 0)), 0, 0);
-    after[CUDDYSTOVE_AT_SENSORS(2)] = 0;
-    one_event("signal off", LIST(CUDDYSTOVE_SIGNAL(2, 0, 0)), 0, 0);
-    one_event("14", LIST(CUDDYSTOVE_FIRE(17)), CUDDYSTOVE_BAD_ITEM, 0);
-    one_event("14", LIST(CUDDYSTOVE_LINK(1, 2, CUDDYSTOVE_FARTHEST + 1)), CUDDYSTOVE_BAD_ITEM, 0);
-    one_event("14", LIST(CUDDYSTOVE_SIGNAL(1, 16, 1)), CUDDYSTOVE_BAD_ITEM, 0);
-    one_event("14", LIST(CUDDYSTOVE_DELIVER(0, 1)), CUDDYSTOVE_BAD_ITEM, 0);
-    one_event("14", LIST(CUDDYSTOVE_SIGNAL(1, 1, 2)), CUDDYSTOVE_BAD_ITEM, 0);
-    one_event("14 before 15", LIST(CUDDYSTOVE_LOSE(17, 17)), CUDDYSTOVE_BAD_ITEM, 0);
-    one_event("14 before 15", LIST(CUDDYSTOVE_LINK(4, 4, -1)), CUDDYSTOVE_BAD_ITEM, 0);
-    one_event("15", LIST(CUDDYSTOVE_LOSE(4, 4)), CUDDYSTOVE_ITSELF, 0);
+    one_event("16", LIST(DELIVER(2, 9)), CUDDYSTOVE_NOTHING_PENDING, 0);
+    one_event("16", LIST(LOSE(2, 9)), CUDDYSTOVE_NOTHING_PENDING, 0);
+    after[cuddystove_at_distance(2, 9)] = CUDDYSTOVE_FARTHEST;
+    one_event("link", LIST(LINK(2, 9, CUDDYSTOVE_FARTHEST)), 0, 0);
+    after[cuddystove_at_sensors(2)] = 1 << 15;
+    one_event("signal", LIST(SIGNAL(2, 15, 1)), 0, 0);
+    after[cuddystove_at_is_pending(2, 9)] = 1;
+    after[cuddystove_at_pending(2, 9, 3)] = 5;
+    one_event("fire", LIST(FIRE(2)), 0, 100);
+    after[cuddystove_at_is_pending(2, 9)] = 0;
+    after[cuddystove_at_pending(2, 9, 3)] = CUDDYSTOVE_MARK;
+    after[cuddystove_at_heard(9, 2, 3)] = 5;
+    one_event("deliver", LIST(DELIVER(2, 9)), 0, 0);
+    one_event("fire of one that heard", LIST(FIRE(9)), 0, 105);
+    after[cuddystove_at_is_pending(2, 9)] = 1;
+    after[cuddystove_at_pending(2, 9, 3)] = 5;
+    one_event("fire", LIST(FIRE(2)), 0, 100);
+    after[cuddystove_at_is_pending(2, 9)] = 0;
+    after[cuddystove_at_pending(2, 9, 3)] = CUDDYSTOVE_MARK;
+    one_event("lose", LIST(LOSE(2, 9)), 0, 0);
+    after[cuddystove_at_is_pending(2, 9)] = 1;
+    after[cuddystove_at_pending(2, 9, 3)] = 5;
+    one_event("fire", LIST(FIRE(2)), 0, 100);
+    after[cuddystove_at_distance(2, 9)] = 0;
+    one_event("another distance, a message pending", LIST(LINK(2, 9, 0)), 0, 0);
+    after[cuddystove_at_distance(2, 9)] = CUDDYSTOVE_MARK;
+    one_event("the end of a link, a message pending", LIST(LINK(2, 9, CUDDYSTOVE_MARK)), 0, 0);
+    after[cuddystove_at_is_pending(2, 9)] = 0;
+    after[cuddystove_at_pending(2, 9, 3)] = CUDDYSTOVE_MARK;
+    one_event("fire without a link", LIST(FIRE(2)), 0, 100);
+    after[cuddystove_at_sensors(2)] = 1 << 15 | 1;
+    one_event("signal another", LIST(SIGNAL(2, 0, 1)), 0, 0);
+    after[cuddystove_at_sensors(2)] = 1;
+    one_event("signal off", LIST(SIGNAL(2, 15, 0)), 0, 0);
+    after[cuddystove_at_sensors(2)] = 0;
+    one_event("signal off", LIST(SIGNAL(2, 0, 0)), 0, 0);
+    one_event("14", LIST(FIRE(17)), CUDDYSTOVE_BAD_ITEM, 0);
+    one_event("14", LIST(LINK(1, 2, CUDDYSTOVE_FARTHEST + 1)), CUDDYSTOVE_BAD_ITEM, 0);
+    one_event("14", LIST(SIGNAL(1, 16, 1)), CUDDYSTOVE_BAD_ITEM, 0);
+    one_event("14", LIST(DELIVER(0, 1)), CUDDYSTOVE_BAD_ITEM, 0);
+    one_event("14", LIST(SIGNAL(1, 1, 2)), CUDDYSTOVE_BAD_ITEM, 0);
+    one_event("14 before 15", LIST(LOSE(17, 17)), CUDDYSTOVE_BAD_ITEM, 0);
+    one_event("14 before 15", LIST(LINK(4, 4, -1)), CUDDYSTOVE_BAD_ITEM, 0);
+    one_event("15", LIST(LOSE(4, 4)), CUDDYSTOVE_ITSELF, 0);
     PROGRAM_IS(divides);
-    one_event("17", LIST(CUDDYSTOVE_FIRE(1)), CUDDYSTOVE_DIVIDED_BY_0, 2);
+    one_event("17", LIST(FIRE(1)), CUDDYSTOVE_DIVIDED_BY_0, 2);
     PROGRAM_IS(counter);
-    after[CUDDYSTOVE_AT_VARIABLE(16, 0)] = 0;
-    one_event("rep, first", LIST(CUDDYSTOVE_FIRE(16)), 0, 0);
-    after[CUDDYSTOVE_AT_VARIABLE(16, 0)] = 1;
-    one_event("rep, second", LIST(CUDDYSTOVE_FIRE(16)), 0, 1);
+    after[cuddystove_at_variable(16, 0)] = 0;
+    one_event("rep, first", LIST(FIRE(16)), 0, 0);
+    after[cuddystove_at_variable(16, 0)] = 1;
+    one_event("rep, second", LIST(FIRE(16)), 0, 1);
 }
 
 // ---- Rounds of devices that have heard others, worked out from 01
@@ -419,36 +428,41 @@ static void events(void) {
 // A fire of a: what was pending goes, and each b with a link from a gets a message, as yet without slots.
 static void message(int a) {
     for (int b = 1; b <= CUDDYSTOVE_DEVICES; b++) {
-        after[CUDDYSTOVE_AT_IS_PENDING(a, b)] = after[CUDDYSTOVE_AT_DISTANCE(a, b)] != CUDDYSTOVE_MARK;
-        for (int i = 1; i < CUDDYSTOVE_ROW; i++) after[CUDDYSTOVE_AT_PENDING(a, b, i)] = CUDDYSTOVE_MARK;
+        after[cuddystove_at_is_pending(a, b)] = after[cuddystove_at_distance(a, b)] != CUDDYSTOVE_MARK;
+        for (int i = 1; i < CUDDYSTOVE_ROW; i++) after[cuddystove_at_pending(a, b, i)] = CUDDYSTOVE_MARK;
     }
 }
 // This slot is in it.
 static void sends(int a, int slot, int32_t number) {
     for (int b = 1; b <= CUDDYSTOVE_DEVICES; b++) {
-        if (after[CUDDYSTOVE_AT_IS_PENDING(a, b)]) after[CUDDYSTOVE_AT_PENDING(a, b, slot)] = number;
+        if (after[cuddystove_at_is_pending(a, b)]) after[cuddystove_at_pending(a, b, slot)] = number;
     }
 }
 // The message pending from a to b arrives: what b heard from a becomes just that, absent slots too.
 static void arrives(const char *what, int a, int b) {
     for (int i = 1; i < CUDDYSTOVE_ROW; i++) {
-        after[CUDDYSTOVE_AT_HEARD(b, a, i)] = after[CUDDYSTOVE_AT_PENDING(a, b, i)];
-        after[CUDDYSTOVE_AT_PENDING(a, b, i)] = CUDDYSTOVE_MARK;
+        after[cuddystove_at_heard(b, a, i)] = after[cuddystove_at_pending(a, b, i)];
+        after[cuddystove_at_pending(a, b, i)] = CUDDYSTOVE_MARK;
     }
-    after[CUDDYSTOVE_AT_IS_PENDING(a, b)] = 0;
-    one_event(what, LIST(CUDDYSTOVE_DELIVER(a, b)), 0, 0);
+    after[cuddystove_at_is_pending(a, b)] = 0;
+    one_event(what, LIST(DELIVER(a, b)), 0, 0);
 }
 // What was before: written into the network, then same().
-static void linked(int a, int b, int32_t distance) { network[CUDDYSTOVE_AT_DISTANCE(a, b)] = distance; }
-static void heard(int a, int b, int slot, int32_t number) { network[CUDDYSTOVE_AT_HEARD(a, b, slot)] = number; }
-static void fires(const char *what, int a, int32_t value) { one_event(what, LIST(CUDDYSTOVE_FIRE(a)), 0, value); }
+static void linked(int a, int b, int32_t distance) { network[cuddystove_at_distance(a, b)] = distance; }
+static void heard(int a, int b, int slot, int32_t number) { network[cuddystove_at_heard(a, b, slot)] = number; }
+static void fires(const char *what, int a, int32_t value) { one_event(what, LIST(FIRE(a)), 0, value); }
 static void faults(const char *what, int a, int32_t node) {
     same();
-    one_event(what, LIST(CUDDYSTOVE_FIRE(a)), CUDDYSTOVE_DIVIDED_BY_0, node);
+    one_event(what, LIST(FIRE(a)), CUDDYSTOVE_DIVIDED_BY_0, node);
+}
+// What a case leaves in a cell, of which the compiler cannot see that there is one.
+static void leaves(size_t cell, int32_t number) {
+    if (cell == CUDDYSTOVE_NO_CELL) _exit(7);
+    after[cell] = number;
 }
 // Just these sensors are lit from now on.
 static void senses(int a, int32_t lit) {
-    network[CUDDYSTOVE_AT_SENSORS(a)] = lit;
+    network[cuddystove_at_sensors(a)] = lit;
     same();
 }
 
@@ -460,17 +474,17 @@ static void distances(void) {
     heard(1, 2, 2, 0);
     same();
     message(2);
-    after[CUDDYSTOVE_AT_VARIABLE(2, 0)] = CUDDYSTOVE_INF;
+    after[cuddystove_at_variable(2, 0)] = CUDDYSTOVE_INF;
     fires("distance-to, first", 2, CUDDYSTOVE_INF);
     arrives("distance-to, an empty message", 2, 1);
     // 01's run (iii): 10 + 10 and inf + 10, so 20; the variable is sent as it was.
     fresh(3);
-    network[CUDDYSTOVE_AT_VARIABLE(2, 0)] = CUDDYSTOVE_INF;
+    network[cuddystove_at_variable(2, 0)] = CUDDYSTOVE_INF;
     linked(2, 1, 10), linked(2, 3, 10);
     heard(2, 1, 1, 10), heard(2, 3, 1, CUDDYSTOVE_INF), heard(2, 1, 2, 0), heard(2, 3, 2, 0);
     same();
     message(2), sends(2, 1, CUDDYSTOVE_INF), sends(2, 2, 0);
-    after[CUDDYSTOVE_AT_VARIABLE(2, 0)] = 20;
+    after[cuddystove_at_variable(2, 0)] = 20;
     fires("01's run (iii)", 2, 20);
     // Its next round sends the 20.
     message(2), sends(2, 1, 20), sends(2, 2, 0);
@@ -478,27 +492,27 @@ static void distances(void) {
     // Lit: 0, and the other side of the mux still sends.
     senses(2, 1 << 1);
     message(2), sends(2, 1, 20), sends(2, 2, 0);
-    after[CUDDYSTOVE_AT_VARIABLE(2, 0)] = 0;
+    after[cuddystove_at_variable(2, 0)] = 0;
     fires("distance-to, lit", 2, 0);
     // The link to 1 has ended, so 1 is out of nbr-range, and no message goes to it: inf + 10.
     senses(2, 0);
     linked(2, 1, CUDDYSTOVE_MARK);
     same();
     message(2), sends(2, 1, 0), sends(2, 2, 0);
-    after[CUDDYSTOVE_AT_VARIABLE(2, 0)] = CUDDYSTOVE_INF;
+    after[cuddystove_at_variable(2, 0)] = CUDDYSTOVE_INF;
     fires("distance-to, a link that has ended", 2, CUDDYSTOVE_INF);
     // 3 is heard with 7 in slot 1, but not with 0 in slot 2; 1 has a link again.
     linked(2, 1, 0);
     heard(2, 3, 1, 7), heard(2, 3, 2, 1);
     same();
     message(2), sends(2, 1, CUDDYSTOVE_INF), sends(2, 2, 0);
-    after[CUDDYSTOVE_AT_VARIABLE(2, 0)] = 10;
+    after[cuddystove_at_variable(2, 0)] = 10;
     fires("distance-to, a range slot that is not 0", 2, 10);
     // 01's run (iv): nobody is heard in slot 2.
     heard(2, 1, 2, CUDDYSTOVE_MARK), heard(2, 3, 2, CUDDYSTOVE_MARK);
     same();
     message(2), sends(2, 1, 10), sends(2, 2, 0);
-    after[CUDDYSTOVE_AT_VARIABLE(2, 0)] = CUDDYSTOVE_INF;
+    after[cuddystove_at_variable(2, 0)] = CUDDYSTOVE_INF;
     fires("01's run (iv)", 2, CUDDYSTOVE_INF);
 
     // The shift of examples/host.c as one list: 1 to 2 is 40, 2 to 3 is 30, 1 is lit.
@@ -516,19 +530,18 @@ static void distances(void) {
     static const struct { uint8_t a, b; int32_t distance, slot1; } last[] = {{2, 1, 40, 0}, {1, 2, 40, 40}, {3, 2, 30, 40},
                                                                             {2, 3, 30, CUDDYSTOVE_INF}};
     for (int i = 0; i < 4; i++) {
-        after[CUDDYSTOVE_AT_DISTANCE(last[i].a, last[i].b)] = last[i].distance;
-        after[CUDDYSTOVE_AT_HEARD(last[i].a, last[i].b, 1)] = last[i].slot1;
-        after[CUDDYSTOVE_AT_HEARD(last[i].a, last[i].b, 2)] = 0;
+        leaves(cuddystove_at_distance(last[i].a, last[i].b), last[i].distance);
+        leaves(cuddystove_at_heard(last[i].a, last[i].b, 1), last[i].slot1);
+        leaves(cuddystove_at_heard(last[i].a, last[i].b, 2), 0);
     }
-    after[CUDDYSTOVE_AT_SENSORS(1)] = 1 << 1;
-    after[CUDDYSTOVE_AT_VARIABLE(1, 0)] = 0;
-    after[CUDDYSTOVE_AT_VARIABLE(2, 0)] = 40;
-    after[CUDDYSTOVE_AT_VARIABLE(3, 0)] = 70;
-#define ROUND                                                                                                           \
-    CUDDYSTOVE_FIRE(1), CUDDYSTOVE_DELIVER(1, 2), CUDDYSTOVE_FIRE(2), CUDDYSTOVE_DELIVER(2, 1), CUDDYSTOVE_DELIVER(2, 3), \
-        CUDDYSTOVE_FIRE(3), CUDDYSTOVE_DELIVER(3, 2)
-    static const uint8_t shift[] = {CUDDYSTOVE_LINK(1, 2, 40), CUDDYSTOVE_LINK(2, 1, 40), CUDDYSTOVE_LINK(2, 3, 30),
-                                    CUDDYSTOVE_LINK(3, 2, 30), CUDDYSTOVE_SIGNAL(1, 1, 1), ROUND, ROUND, ROUND, ROUND};
+    after[cuddystove_at_sensors(1)] = 1 << 1;
+    after[cuddystove_at_variable(1, 0)] = 0;
+    after[cuddystove_at_variable(2, 0)] = 40;
+    after[cuddystove_at_variable(3, 0)] = 70;
+#define ROUND FIRE(1), DELIVER(1, 2), FIRE(2), DELIVER(2, 1), DELIVER(2, 3), FIRE(3), DELIVER(3, 2)
+    static const uint8_t shift[] = {
+        LINK(1, 2, 40), LINK(2, 1, 40), LINK(2, 3, 30), LINK(3, 2, 30), SIGNAL(1, 1, 1), ROUND, ROUND, ROUND, ROUND,
+    };
     expect("a shift of distance-to", RUN, shift, sizeof shift, 0, 0);
     expect("a shift of distance-to", BOTH, shift, sizeof shift, 0, 0);
 }
@@ -541,30 +554,30 @@ static void choices(void) {
     heard(5, 6, 15, 30), heard(5, 9, 15, 12), heard(5, 9, 14, 999), heard(6, 5, 1, 1);
     same();
     message(5);
-    after[CUDDYSTOVE_AT_VARIABLE(5, 15)] = 10;
+    after[cuddystove_at_variable(5, 15)] = 10;
     fires("if, else", 5, 10);
     message(5);
-    after[CUDDYSTOVE_AT_VARIABLE(5, 15)] = 9;
+    after[cuddystove_at_variable(5, 15)] = 9;
     fires("if, else again", 5, 9);
     senses(5, 1 << 1);
     message(5), sends(5, 15, 7);
-    after[CUDDYSTOVE_AT_VARIABLE(5, 0)] = 0;
-    after[CUDDYSTOVE_AT_VARIABLE(5, 15)] = CUDDYSTOVE_MARK;
+    after[cuddystove_at_variable(5, 0)] = 0;
+    after[cuddystove_at_variable(5, 15)] = CUDDYSTOVE_MARK;
     fires("if, then", 5, 0 + 30 + 12);
     message(5), sends(5, 15, 7);
-    after[CUDDYSTOVE_AT_VARIABLE(5, 0)] = 1;
+    after[cuddystove_at_variable(5, 0)] = 1;
     fires("if, then again", 5, 1 + 30 + 12);
     arrives("if, what then sent", 5, 6);
     senses(5, 0xffff & ~(1 << 1));
     message(5);
-    after[CUDDYSTOVE_AT_VARIABLE(5, 0)] = CUDDYSTOVE_MARK;
-    after[CUDDYSTOVE_AT_VARIABLE(5, 15)] = 10;
+    after[cuddystove_at_variable(5, 0)] = CUDDYSTOVE_MARK;
+    after[cuddystove_at_variable(5, 15)] = 10;
     fires("if, back to else", 5, 10);
     arrives("if, that else sent nothing", 5, 6);
     senses(5, 0xffff);
     message(5), sends(5, 15, 7);
-    after[CUDDYSTOVE_AT_VARIABLE(5, 0)] = 0;
-    after[CUDDYSTOVE_AT_VARIABLE(5, 15)] = CUDDYSTOVE_MARK;
+    after[cuddystove_at_variable(5, 0)] = 0;
+    after[cuddystove_at_variable(5, 15)] = CUDDYSTOVE_MARK;
     fires("if, back to then", 5, 0 + 30 + 12);
 
     PROGRAM_IS(spared);
@@ -586,7 +599,7 @@ static void choices(void) {
     PROGRAM_IS(argument_first);
     faults("a call evaluates its first argument first", 5, 5);
     PROGRAM_IS(rep_first);
-    network[CUDDYSTOVE_AT_VARIABLE(5, 0)] = 1;
+    network[cuddystove_at_variable(5, 0)] = 1;
     faults("rep evaluates its initial part first", 5, 5);
     fresh(2);
     PROGRAM_IS(mux_2);
@@ -594,21 +607,21 @@ static void choices(void) {
     PROGRAM_IS(if_2);
     fires("if, condition 2", 5, 6);
     PROGRAM_IS(nested);
-    after[CUDDYSTOVE_AT_VARIABLE(5, 0)] = 1;
+    after[cuddystove_at_variable(5, 0)] = 1;
     fires("a rep in a rep, first", 5, 1);
-    after[CUDDYSTOVE_AT_VARIABLE(5, 0)] = 1 + 1;
-    after[CUDDYSTOVE_AT_VARIABLE(5, 1)] = 1;
+    after[cuddystove_at_variable(5, 0)] = 1 + 1;
+    after[cuddystove_at_variable(5, 1)] = 1;
     fires("a rep in a rep, second", 5, 2);
-    after[CUDDYSTOVE_AT_VARIABLE(5, 0)] = 2 + 3;
-    after[CUDDYSTOVE_AT_VARIABLE(5, 1)] = 2 + 1;
+    after[cuddystove_at_variable(5, 0)] = 2 + 3;
+    after[cuddystove_at_variable(5, 1)] = 2 + 1;
     fires("a rep in a rep, third", 5, 5);
     fresh(2);
     PROGRAM_IS(initial_again);
     faults("rep, no initial part", 5, 3);
     senses(5, 1 << 1);
-    after[CUDDYSTOVE_AT_VARIABLE(5, 0)] = 6;
+    after[cuddystove_at_variable(5, 0)] = 6;
     fires("rep, initial", 5, 6);
-    after[CUDDYSTOVE_AT_VARIABLE(5, 0)] = 7;
+    after[cuddystove_at_variable(5, 0)] = 7;
     fires("rep, update", 5, 7);
     senses(5, 0);
     faults("rep evaluates its initial part every round", 5, 3);
@@ -651,14 +664,14 @@ static void folds(void) {
     // 1 x 2 - 3 / 3 = 1, 1 x 2 - 9 / 3 = -1, -1 x 2 - 30 / 3 = -12: then, 7 x 6 - 5 / 2 = 40; the rep of the other side goes on.
     for (int round = 0; round < 4; round++) {
         message(2), sends(2, 1, 9);
-        after[CUDDYSTOVE_AT_VARIABLE(2, 0)] = 1 << round;
+        after[cuddystove_at_variable(2, 0)] = 1 << round;
         fires("a fold by definition, mux, calls", 2, 40);
     }
     // -1 x 2 - 33 / 3 = -13: else.
     heard(2, 16, 1, 33);
     same();
     message(2), sends(2, 1, 9);
-    after[CUDDYSTOVE_AT_VARIABLE(2, 0)] = 16;
+    after[cuddystove_at_variable(2, 0)] = 16;
     fires("mux, else", 2, 16);
 
     // Divisions in a definition and over fields: the node that divides is named.
@@ -763,12 +776,12 @@ static void operators(void) {
 
 // Two orders of one shift: all ends alike. And one side refused alone.
 static void orders(void) {
-    static const uint8_t one[] = {CUDDYSTOVE_FIRE(1), CUDDYSTOVE_FIRE(2), CUDDYSTOVE_FIRE(1), CUDDYSTOVE_DELIVER(3, 3)};
-    static const uint8_t two[] = {CUDDYSTOVE_DELIVER(3, 3), CUDDYSTOVE_FIRE(1), CUDDYSTOVE_FIRE(1), CUDDYSTOVE_FIRE(2)};
+    static const uint8_t one[] = {FIRE(1), FIRE(2), FIRE(1), DELIVER(3, 3)};
+    static const uint8_t two[] = {DELIVER(3, 3), FIRE(1), FIRE(1), FIRE(2)};
     static const int32_t answers1[] = {0, 0, 0, 0, 0, 1, 15, 0}, answers2[] = {15, 0, 0, 0, 0, 1, 0, 0};
     PROGRAM_IS(counter);
     fresh(8);
-    for (int end = 0; end < 2; end++) {
+    for (int end = FIRST; end <= LAST; end++) {
         for (int refuse = 0; refuse < 3; refuse++) {
             const size_t length1 = sizeof one - (refuse == 1), length2 = sizeof two - (refuse == 2);
             const uint8_t *p = lend(PROGRAM, counter, sizeof counter, end);
@@ -777,8 +790,8 @@ static void orders(void) {
             int32_t *s1 = lend(SPACE, space, sizeof answers1, end), *s2 = lend(SPACE2, space, sizeof answers2, end);
             struct cuddystove_verdicts v =
                 cuddystove_run_both(p, sizeof counter, n1, CUDDYSTOVE_CELLS, n2, CUDDYSTOVE_CELLS, l, length1, m, length2, s1, 8, s2, 8);
-            after[CUDDYSTOVE_AT_VARIABLE(1, 0)] = 1;
-            after[CUDDYSTOVE_AT_VARIABLE(2, 0)] = 0;
+            after[cuddystove_at_variable(1, 0)] = 1;
+            after[cuddystove_at_variable(2, 0)] = 0;
             judge("orders, first",
                   v.number1 == (refuse == 1 ? 12 : 0) && v.place1 == (refuse == 1 ? 3 : 0) &&
                       memcmp(n1, refuse == 1 ? network : after, 4 * CUDDYSTOVE_CELLS) == 0 &&

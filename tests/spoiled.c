@@ -52,8 +52,8 @@ struct cuddystove_verdict __wrap_cuddystove_event(PROGRAM, REST) {
     if (SPOIL == READS_BEFORE_LIST) look(list - 1);
     v = __real_cuddystove_event(program, program_length, network, network_length, list, list_length, space, space_length);
     for (int a = 1; SPOIL == NEVER_STORES && whole && a <= CUDDYSTOVE_DEVICES; a++)
-        memcpy(network + CUDDYSTOVE_AT_VARIABLE(a, 0), kept + CUDDYSTOVE_AT_VARIABLE(a, 0), 4 * CUDDYSTOVE_VARIABLES);
-    if (SPOIL == WRITES_A_CELL && whole && v.number == 0) network[CUDDYSTOVE_AT_HEARD(13, 12, 11)] = 0;
+        memcpy(network + cuddystove_at_variable(a, 0), kept + cuddystove_at_variable(a, 0), 4 * CUDDYSTOVE_VARIABLES);
+    if (SPOIL == WRITES_A_CELL && whole && v.number == 0) network[cuddystove_at_heard(13, 12, 11)] = 0;
     return v;
 }
 

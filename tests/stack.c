@@ -3,6 +3,7 @@
 // stack than the limit. Prints a line a case and 'N passed, M failed'.
 #define _GNU_SOURCE
 #include "cuddystove.h"
+#include "bytes.h"
 #include <pthread.h>
 #include <stdio.h>
 #include <stdlib.h>
@@ -22,7 +23,7 @@ static int nodes, definitions;
 static struct cuddystove_verdict verdict, other_verdict;
 static int32_t network[CUDDYSTOVE_CELLS], other_network[CUDDYSTOVE_CELLS];
 static int32_t answer[2], other_answer[2];
-static const uint8_t fire[] = {CUDDYSTOVE_FIRE(1)};
+static const uint8_t fire[] = {FIRE(1)};
 static size_t idle;
 static int passed, failed;
 
@@ -206,12 +207,12 @@ static void *fresh(void *unused) {
 
 // Device 1 with sensor 1 lit, every variable 1, and each other device at 10, heard with 0 in slot 1: folds go over fifteen devices.
 static void prepare(int32_t *cells) {
-    cuddystove_fresh(cells, CUDDYSTOVE_CELLS);
-    cells[CUDDYSTOVE_AT_SENSORS(1)] = 1 << 1;
-    for (int v = 0; v < CUDDYSTOVE_VARIABLES; v++) cells[CUDDYSTOVE_AT_VARIABLE(1, v)] = 1;
+    if (cuddystove_fresh(cells, CUDDYSTOVE_CELLS).number != CUDDYSTOVE_DONE) exit(1);
+    cells[cuddystove_at_sensors(1)] = 1 << 1;
+    for (int v = 0; v < CUDDYSTOVE_VARIABLES; v++) cells[cuddystove_at_variable(1, v)] = 1;
     for (int b = 2; b <= CUDDYSTOVE_DEVICES; b++) {
-        cells[CUDDYSTOVE_AT_DISTANCE(1, b)] = 10;
-        cells[CUDDYSTOVE_AT_HEARD(1, b, 1)] = 0;
+        cells[cuddystove_at_distance(1, b)] = 10;
+        cells[cuddystove_at_heard(1, b, 1)] = 0;
     }
 }
 

@@ -1,11 +1,12 @@
-# Every #define, enum, struct, enumerator, field and function of a header has a comment on its line or on the line before it. Says
-# which has none, and exits with 1.
+# Every #define, enum, struct, enumerator, field and function of a header has a comment on its line or on the line before it, a line
+# CUDDYSTOVE_LOOK between them aside. Says which has none, and exits with 1.
+/^CUDDYSTOVE_LOOK$/ { next }
 {
     code = $0
     own = sub(/[ \t]*\/\/ *[^- ].*$/, "", code) # a heading, // ----, is no comment
     alone = own && code == ""
     opens = code ~ /^(enum|struct) [a-z_0-9]+ \{/
-    item = code ~ /^# *define / || opens || inside && code ~ /[A-Za-z]/ || code ~ /cuddystove_[a-z_0-9]+ *\(/
+    item = code ~ /^# *define / || opens || inside && code ~ /[A-Za-z]/ || code ~ /^[a-z].*cuddystove_[a-z_0-9]+ *\(/
     if (item) count++
     if (item && !own && !before) say("no comment")
     if (inside && (gsub(/CUDDYSTOVE_/, "&", code) > 1 || gsub(/;/, "&", code) > 1)) say("one to a line")

@@ -22,6 +22,11 @@ fn number_and_place(result: Result<(), Refusal>) -> (u32, usize) {
     result.map_or_else(|refusal| (refusal.number, refusal.place), |()| (0, 0))
 }
 
+/// Outside the crate nobody makes this one by its name, since requests will add to it.
+fn done(value: i32) -> Answer {
+    Answer::from_pair([0, value]).expect("an answer")
+}
+
 fn all(space: &[i32]) -> Vec<Answer> {
     answers(space).map(|answer| answer.expect("the engine writes no other")).collect()
 }
@@ -81,7 +86,7 @@ fn run_does_all() {
     let list = [0x10, 0, 1, 1, 0x11, 0, 2, 1, 1, 0x10, 0, 1, 1, 0x11, 0, 2, 1, 2];
     let mut space = [5; 9];
     assert_eq!(run(&COUNTER, &mut network, &list, &mut space), Ok(()));
-    assert_eq!(all(&space), [Answer::Done(0), Answer::Itself, Answer::Done(1), Answer::NothingPending]);
+    assert_eq!(all(&space), [done(0), Answer::Itself, done(1), Answer::NothingPending]);
     assert_eq!(space[8], 5);
     assert_eq!(run(&COUNTER, &mut network, &[], &mut []), Ok(()));
     assert_eq!(number_and_place(run(&COUNTER, &mut network, &list[..17], &mut space)), (12, 3));
@@ -119,28 +124,36 @@ fn refusals_in_words() {
     assert_eq!((refusal.number, refusal.name, refusal.place), (1, "bad field", 5));
     assert_eq!(
         refusal.to_string(),
-        "refused 1 5 (bad field): Field 5 of the program is cut short, of unknown tag, of the wrong length or without a kind byte."
+        "refused 1 5 (bad field): Field 5 of the program is cut short, of unknown tag, of the wrong length or without \
+         a kind byte."
     );
     let refusal = fresh(&mut [0; 3]).expect_err("too short");
-    assert_eq!(refusal.sentence(), "The network is not 8,464 cells long.");
+    assert_eq!(refusal.sentence().to_string(), "The network is not 8,464 cells long.");
     let mut network = fresh_network();
     network[2 * BLOCK + 273 + 16 * 4] = 2;
     let refusal = run(&COUNTER, &mut network, &[], &mut []).expect_err("unsound");
-    assert_eq!(refusal.sentence(), "Cell 1395 of the network is unsound (device 3, cell 337 of its block).");
+    assert_eq!(
+        refusal.sentence().to_string(),
+        "Cell 1395 of the network holds what it may not (device 3, cell 337 of its block)."
+    );
+    let error: &dyn std::error::Error = &refusal;
+    assert_eq!(error.to_string(), format!("refused 11 1395 (unsound network): {}", refusal.sentence()));
 }
 
 /// Each number has a name and a sentence of its own, be it returned or answered.
 #[test]
 fn every_number_has_its_words() {
-    let returned = (1..=13).map(|number| Refusal::new(number, 7)).map(|refusal| (refusal.name, refusal.sentence()));
+    let returned =
+        (1..=13).map(|number| Refusal::new(number, 7)).map(|refusal| (refusal.name, refusal.sentence().to_string()));
     let answered = (14..=17).map(|number| {
         let answer = Answer::from_pair([number, 0]).expect("an answer");
         assert_eq!(answer.number(), number as u32);
-        (answer.name(), answer.sentence())
+        (answer.name(), answer.sentence().to_string())
     });
-    let done = (Answer::Done(0).name(), Answer::Done(0).sentence());
+    let done = (done(0).name(), done(0).sentence().to_string());
     let other = Refusal::new(18, 7);
-    let words: Vec<(&str, String)> = returned.chain(answered).chain([done, (other.name, other.sentence())]).collect();
+    let other = (other.name, other.sentence().to_string());
+    let words: Vec<(&str, String)> = returned.chain(answered).chain([done, other]).collect();
     let names: BTreeSet<&str> = words.iter().map(|(name, _)| *name).collect();
     let sentences: BTreeSet<&str> = words.iter().map(|(_, sentence)| &sentence[..]).collect();
     assert_eq!((words.len(), names.len(), sentences.len()), (19, 19, 19), "{words:?}");
@@ -149,19 +162,25 @@ fn every_number_has_its_words() {
     }
     // The place stands in the sentence of a refusal that has one.
     for number in [1, 2, 3, 4, 5, 7, 8, 9, 11, 12] {
-        assert!(Refusal::new(number, 4_321).sentence().contains("4321"), "{number}");
+        assert!(Refusal::new(number, 4_321).sentence().to_string().contains(" 4321 "), "{number}");
     }
 }
 
 #[test]
 fn answers_in_words() {
-    let pairs = [0, 4, 14, 0, 15, 0, 16, 0, 17, 3, 18, 0];
+    let pairs = [0, 4, 14, 0, 15, 0, 16, 0, 17, 3, 18, 0, 14, 1, -1, 0, 0];
     let read: Vec<Option<Answer>> = answers(&pairs).collect();
-    let expected =
-        [Answer::Done(4), Answer::OutOfRange, Answer::Itself, Answer::NothingPending, Answer::DividedByZero(3)];
+    let expected = [done(4), Answer::OutOfRange, Answer::Itself, Answer::NothingPending, Answer::DividedByZero(3)];
     assert_eq!(read[..5], expected.map(Some));
-    assert_eq!(read[5], None);
+    assert_eq!(read[5..], [None, None, None]);
     assert_eq!(expected.map(Answer::number), [0, 14, 15, 16, 17]);
-    assert_eq!(Answer::Done(INF).sentence(), "Done; the value is inf.");
-    assert_eq!(Answer::DividedByZero(3).sentence(), "Node 3 divided by 0; the fire changed nothing.");
+    assert_eq!(expected.map(Answer::value), [Some(4), None, None, None, None]);
+    assert!(matches!(expected[0], Answer::Done { value: 4, .. }));
+    assert_eq!(done(-4).sentence().to_string(), "Done; the value is -4.");
+    assert_eq!(done(INF).sentence().to_string(), "Done; the value is inf.");
+    assert_eq!(done(INF).to_string(), "Done; the value is inf.");
+    assert_eq!(
+        Answer::DividedByZero(3).sentence().to_string(),
+        "The round divided by 0 in node 3, and the fire changed nothing."
+    );
 }
