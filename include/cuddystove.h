@@ -251,7 +251,8 @@ static inline int cuddystove_within(int64_t number, int64_t least, int64_t most)
 // ---- The index of a cell, for instance network[cuddystove_at_variable(2, 0)]; CUDDYSTOVE_NO_CELL where there is no such device,
 // variable or slot. Devices a and b are 1 to 16. Look at an index whose items may be wrong before it is used.
 
-// No such cell. An index so far off, also when it is cut to an int, that on this platform to use it faults, and reads no other cell.
+// No such cell. Used as an index all the same it is no address on this platform, so the program ends; cut to an int it is 8 GiB before the
+// network.
 #define CUDDYSTOVE_NO_CELL (SIZE_MAX / 8 - INT32_MAX)
 
 // The first cell of a's block.

@@ -1,8 +1,8 @@
 // The numbers of include/cuddystove.h against 01's, written out again; built as C11 and as C++11, linked and run. Its functions are
 // tried by tests/inline.c.
 #include "cuddystove.h"
-#include <assert.h>
 #include "bytes.h"
+#include <assert.h>
 #ifdef __cplusplus
 #include <vector>
 #endif
