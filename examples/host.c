@@ -89,6 +89,14 @@ static void deliver_all(int a) {
     }
 }
 
+// 2 drives off, and nothing comes from it any more. Three rounds of 3 read what it last sent, a fourth no longer.
+static void drives_off(void) {
+    for (int round = 1; round <= 4; round++) {
+        printf("vehicle 3 fires: %s;", text(event(cuddystove_add_fire(&list, 3))));
+        printf(" its age for 2 is %s then\n", text(network[cuddystove_at_age(3, 2)]));
+    }
+}
+
 // A whole list at the office: two numbers an event.
 static void run(void) {
     int32_t answers[8];
@@ -128,8 +136,10 @@ int main(void) {
     event(cuddystove_add_deliver(&list, 2, 3));
     event(cuddystove_add_lose(&list, 2, 1));
     show_pending(2);
-    printf("vehicle 3 last heard %s from 2\n", text(network[cuddystove_at_heard(3, 2, 1)]));
+    printf("vehicle 3 last heard %s from 2,", text(network[cuddystove_at_heard(3, 2, 1)]));
+    printf(" at age %s\n", text(network[cuddystove_at_age(3, 2)]));
     event(cuddystove_add_deliver(&list, 2, 1)); // nothing is pending any more: 16
+    drives_off();
     run();
     return 0;
 }

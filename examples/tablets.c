@@ -1,6 +1,6 @@
 // Sixteen tablets, each with a network and a log of its own, against the office's one network. The tablets do a shift: rounds, messages by
 // radio, some of them lost, links that change, a vehicle that gets stuck. Then the office joins the sixteen logs, which share no clock,
-// and runs the list on one network: every answer, and every cell of each vehicle's own block, is what the tablet had.
+// and runs the list on one network: every answer, and every cell of each vehicle's own block, ages too, is what the tablet had.
 // Build: gcc -std=c99 -Iinclude examples/tablets.c target/staticlib/libcuddystove.a -o tablets
 // Run: ./tablets examples/shift-of-sixteen/program.pf. It prints examples/tablets.expected. With one of two words after it a tablet once does
 // what hosts must not do, and the office finds out: `late` takes an older message behind a newer one, `lost` logs a loss after the next round.
@@ -42,7 +42,7 @@ static struct message {
 static uint8_t bytes[CUDDYSTOVE_LONGEST_EVENT];
 static struct cuddystove_list event = {bytes, sizeof bytes, 0};
 
-static int received, lost, unheard, underway, faults;
+static int received, lost, unheard, underway, faults, faded;
 
 static void stop(const char *why) {
     printf("%s\n", why);
@@ -66,12 +66,21 @@ static struct entry *does(int a, size_t written) {
     return e;
 }
 
+// How many others tablet a has heard whose message has not faded.
+static int hears(int a) {
+    int count = 0;
+    for (int b = 1; b <= FLEET; b++) count += tablets[a].network[cuddystove_at_age(a, b)] != CUDDYSTOVE_MARK;
+    return count;
+}
+
 // A round, and its messages taken out and sent. What is still on its way from the round before must not arrive any more. A round that
 // faults sends nothing, and leaves that pending in the office's network.
 static void fires(int a) {
+    const int heard = hears(a);
     const int is_done = does(a, cuddystove_add_fire(&event, a))->answer[0] == CUDDYSTOVE_DONE;
     tablets[a].fired++;
     faults += !is_done;
+    faded += heard - hears(a);
     for (int b = 1; b <= FLEET; b++) {
         struct message *m = &air[a][b];
         unheard += m->length != 0 && !m->is_over;
@@ -251,6 +260,7 @@ int main(int count, char **words) {
     if (differences() != 0) return 1;
     printf("%d events: %d messages received, %d lost, %d never heard of, %d still on their way; %d rounds faulted\n", events, received,
            lost, unheard, underway, faults);
+    printf("%d messages faded: three rounds of the hearer without a newer one\n", faded);
     printf("all answers and the blocks of all %d vehicles are the office's\n", FLEET);
     for (int a = 1; a <= FLEET; a++) {
         printf("%" PRId32 "%s", office[cuddystove_at_variable(a, 0)], a % ROW == 0 ? "\n" : " ");

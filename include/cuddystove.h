@@ -20,8 +20,8 @@
 #include <stddef.h>
 #include <stdint.h>
 
-#define CUDDYSTOVE_VERSION "0.1.0"    // of this header and its library; a change of cells, bytes or answers raises the middle number
-#define CUDDYSTOVE_VERSION_NUMBER 100 // the same to compare: 10,000, 100 and 1 times its numbers
+#define CUDDYSTOVE_VERSION "0.2.0"    // of this header and its library; a change of cells, bytes or answers raises the middle number
+#define CUDDYSTOVE_VERSION_NUMBER 200 // the same to compare: 10,000, 100 and 1 times its numbers
 
 // A result that must be looked at: the compiler warns where it is dropped (gcc also where it is cast to void).
 #if defined(__cplusplus) && __cplusplus >= 201703L
@@ -98,21 +98,28 @@ struct cuddystove_verdicts cuddystove_run_both(const uint8_t *program, size_t pr
 #define CUDDYSTOVE_FLOOR (-INT32_MAX) // floor, the least number: -2,147,483,647
 #define CUDDYSTOVE_INF INT32_MAX      // inf, the largest number: 2,147,483,647
 
-// ---- A network: 16 blocks of 529 cells, one for each device. Devices a, b are 1 to 16.
+// ---- A network: 16 blocks of 545 cells, one for each device. Devices a, b are 1 to 16.
 
 #define CUDDYSTOVE_DEVICES 16        // of a network, numbered 1 to 16
-#define CUDDYSTOVE_BLOCK 529         // cells of a device's block
-#define CUDDYSTOVE_CELLS 8464        // cells of a network, 16 blocks: the only length that a network may have
+#define CUDDYSTOVE_BLOCK 545         // cells of a device's block
+#define CUDDYSTOVE_CELLS 8720        // cells of a network, 16 blocks: the only length that a network may have
 #define CUDDYSTOVE_VARIABLES 16      // of a device, 0 to 15
 #define CUDDYSTOVE_SENSORS 16        // of a device, 0 to 15
 #define CUDDYSTOVE_ROW 16            // cells of a heard or pending row: 0, then slots 1 to 15
 #define CUDDYSTOVE_FIRST_SENSORS 16  // where in a block the sensors' cell stands,
 #define CUDDYSTOVE_FIRST_HEARD 17    // the first heard row, that for device 1,
-#define CUDDYSTOVE_FIRST_PENDING 273 // and the first pending row, that for device 1
+#define CUDDYSTOVE_FIRST_PENDING 273 // the first pending row, that for device 1,
+#define CUDDYSTOVE_FIRST_AGE 529     // and the first age, that for device 1
 #define CUDDYSTOVE_FARTHEST 1000000  // the largest distance
+#define CUDDYSTOVE_OLDEST 2          // the largest age
 
 // What stands in which cell: below, at the functions that give a cell's index. A host reads cells as it likes, and writes none but by
-// cuddystove_take and cuddystove_put.
+// cuddystove_take and cuddystove_put. (A test that writes heard slots itself writes an age beside them, else 11 names the age's cell.)
+//
+// What is heard fades. A delivery, of an empty message too, sets the hearer's age for that sender to 0. Each round that the hearer
+// completes adds 1 to all its ages, after it has read. An age that would become 3 becomes absent instead, and with it slots 1 to 15
+// heard from that sender; the distance stays. So three rounds read a message, and the fourth no longer. Rounds are counted, not time:
+// nothing else changes an age, neither a round that divides by 0 (17) nor a loss, a link, a signal or a refused event.
 
 // ---- Refusals. Returned: 1 to 13. In answers: 14 to 17.
 
@@ -129,7 +136,7 @@ enum cuddystove_refusal {
     CUDDYSTOVE_MISREAD = 8,          // A node reads a parameter that its tree does not have, or a variable outside its rep's update.
     CUDDYSTOVE_MISUSED = 9,          // A node calls a spatial definition a second time, or folds by one that may not fold.
     CUDDYSTOVE_TOO_COSTLY = 10,      // A round of the program costs more than 1,000,000.
-    CUDDYSTOVE_UNSOUND = 11,         // The network is not 8,464 cells long (place 0), or a cell holds what it may not.
+    CUDDYSTOVE_UNSOUND = 11,         // The network is not 8,720 cells long (place 0), or a cell holds what it may not.
     CUDDYSTOVE_BAD_LIST = 12,        // An event of the list is of unknown tag, of the wrong length, cut short, missing or one too many.
     CUDDYSTOVE_SHORT_SPACE = 13,     // The answer space is shorter than two numbers an event.
     CUDDYSTOVE_BAD_ITEM = 14,        // A device, sensor, switch or distance of the event is out of range.
@@ -165,7 +172,7 @@ enum cuddystove_tag {
 
 // The first byte of a node, the bytes after it, and what the node gives. Operands are numbers of nodes. A field, a map from some
 // devices to numbers, is what nbr and nbr-range give, an operator with a field on a side, and an if with fields for branches. All
-// else is a number.
+// else is a number. What has faded (above) is no longer heard.
 enum cuddystove_kind {
     CUDDYSTOVE_CONSTANT = 0,  // four bytes, high byte first, not the mark: that number
     CUDDYSTOVE_PARAMETER = 1, // number 0 to 3: that argument of the call
@@ -225,7 +232,7 @@ static inline const char *cuddystove_sentence(int64_t number) {
     case CUDDYSTOVE_MISREAD: return "A node reads a parameter that its tree does not have, or a variable outside its rep's update.";
     case CUDDYSTOVE_MISUSED: return "A node calls a spatial definition a second time, or folds by one that may not fold.";
     case CUDDYSTOVE_TOO_COSTLY: return "A round of the program costs more than 1,000,000.";
-    case CUDDYSTOVE_UNSOUND: return "The network is not 8,464 cells long (place 0), or a cell holds what it may not.";
+    case CUDDYSTOVE_UNSOUND: return "The network is not 8,720 cells long (place 0), or a cell holds what it may not.";
     case CUDDYSTOVE_BAD_LIST: return "An event of the list is of unknown tag, of the wrong length, cut short, missing or one too many.";
     case CUDDYSTOVE_SHORT_SPACE: return "The answer space is shorter than two numbers an event.";
     case CUDDYSTOVE_BAD_ITEM: return "A device, sensor, switch or distance of the event is out of range.";
@@ -284,10 +291,17 @@ static inline size_t cuddystove_at_row(int64_t a, size_t first, int64_t b, int64
 // The distance of the link from a to b, 0 to 1,000,000, the mark where there is none.
 CUDDYSTOVE_LOOK
 static inline size_t cuddystove_at_distance(int64_t a, int64_t b) { return cuddystove_at_row(a, CUDDYSTOVE_FIRST_HEARD, b, 0); }
-// Slot i, 1 to 15, that a last heard from b: the mark or a number.
+// Slot i, 1 to 15, that a last heard from b: a number; the mark where it was not in the message, and where the message has faded.
 CUDDYSTOVE_LOOK
 static inline size_t cuddystove_at_heard(int64_t a, int64_t b, int64_t i) {
     return i == 0 ? CUDDYSTOVE_NO_CELL : cuddystove_at_row(a, CUDDYSTOVE_FIRST_HEARD, b, i);
+}
+// The age of what a last heard from b: how many rounds a has completed since, 0 to 2; the mark where nothing was heard, where it has
+// faded, and for a itself. It is present where a slot heard from b is; of an empty message it is present without one.
+CUDDYSTOVE_LOOK
+static inline size_t cuddystove_at_age(int64_t a, int64_t b) {
+    if (!cuddystove_within(a, 1, CUDDYSTOVE_DEVICES) || !cuddystove_within(b, 1, CUDDYSTOVE_DEVICES)) return CUDDYSTOVE_NO_CELL;
+    return cuddystove_at_block(a) + CUDDYSTOVE_FIRST_AGE + CUDDYSTOVE_AS(size_t, b - 1);
 }
 // 1 if a message is pending from a to b, else 0.
 CUDDYSTOVE_LOOK
@@ -332,12 +346,13 @@ static inline size_t cuddystove_add(struct cuddystove_list *list, enum cuddystov
     list->length += 3 + count;
     return 3 + count;
 }
-// Device a does a round: its variables are stored, and each b that a has a link to has a message of a's pending.
+// Device a does a round: its variables are stored, what it has heard ages or fades, and each b that a has a link to has a message of
+// a's pending.
 CUDDYSTOVE_LOOK
 static inline size_t cuddystove_add_fire(struct cuddystove_list *list, int64_t a) {
     return cuddystove_add(list, CUDDYSTOVE_TAG_FIRE, &a, 1);
 }
-// The message pending from a to b becomes what b last heard from a, and is no longer pending.
+// The message pending from a to b becomes what b last heard from a, at age 0, and is no longer pending.
 CUDDYSTOVE_LOOK
 static inline size_t cuddystove_add_deliver(struct cuddystove_list *list, int64_t a, int64_t b) {
     const int64_t items[] = {a, b};
@@ -371,9 +386,11 @@ static inline size_t cuddystove_add_signal(struct cuddystove_list *list, int64_t
 // ---- Messages between tablets. Each tablet has a network of its own and does its own device's events on it. The way of a message
 // from tablet a to tablet b:
 //   a: does fire a; then, for each b, cuddystove_take gives the message to b as bytes, takes it out of a's network, and a sends it;
-//   b: looks whether it is for b (message[1]); cuddystove_put puts it into b's network, as pending; then b does deliver a b at once;
-//   lost: nobody does anything. Where a hears of it before its next fire, and its log shall have it: cuddystove_put on a's network,
-//      then lose a b. After that fire it must not: at the office lose would throw away the newer message.
+//   b: looks whether it is for b (message[1]); cuddystove_put puts it into b's network, as pending; then b does deliver a b at once,
+//      which sets b's age for a to 0. On its way a message has no age; cuddystove_take and cuddystove_put touch none;
+//   lost: nobody does anything, and what b heard from a before goes on ageing. Where a hears of it before its next fire, and its log
+//      shall have it: cuddystove_put on a's network, then lose a b. After that fire it must not: at the office lose would throw away
+//      the newer message.
 // What the hosts see to: a message arrives as it was sent, once, and before its sender's next fire, or is thrown away (a later one
 // is gone in the office's network); send along how often a has fired, rounds that faulted too, and log it with the receipt, so that
 // the office can set the delivery between the right two fires. A message is logged as received or as lost, not as both.

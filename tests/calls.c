@@ -1,4 +1,4 @@
-// Every call on accepted and refused inputs, each refusal from 1 to 17, and rounds with every kind of node. Each slice lies against
+// Every call on accepted and refused inputs, each refusal from 1 to 17, rounds with every kind of node, and ages. Each slice lies against
 // a page that cannot be touched, once at its end and once at its start, and what a call only reads cannot be written: a stray access
 // ends this program. It uses no heap and no stdio, so that valgrind counts the library's own allocations. Prints the cases that
 // failed and 'N passed, M failed'.
@@ -296,6 +296,15 @@ static void programs(void) {
     refused_call("10", EVENT, LIST(FIRE(1)), 10, 0);
 }
 
+// A network that is fresh but for this number in this cell.
+static void refused_cell(size_t cell, int32_t number) {
+    fresh(2);
+    network[cell] = number;
+    refused_call("11", EVENT, LIST(FIRE(1)), 11, cell);
+    refused_call("11", RUN, EMPTY, 11, cell);
+    refused_call("11", BOTH, EMPTY, 11, cell);
+}
+
 static void networks(void) {
     PROGRAM_IS(counter);
     fresh(2);
@@ -317,13 +326,7 @@ static void networks(void) {
         {cuddystove_at_pending(16, 15, 15), 0},
         {cuddystove_at_pending(16, 16, 15), 0},
     };
-    for (size_t i = 0; i < sizeof unsound / sizeof unsound[0]; i++) {
-        fresh(2);
-        network[unsound[i].cell] = unsound[i].number;
-        refused_call("11", EVENT, LIST(FIRE(1)), 11, unsound[i].cell);
-        refused_call("11", RUN, EMPTY, 11, unsound[i].cell);
-        refused_call("11", BOTH, EMPTY, 11, unsound[i].cell);
-    }
+    for (size_t i = 0; i < sizeof unsound / sizeof unsound[0]; i++) refused_cell(unsound[i].cell, unsound[i].number);
     // The lowest of two is named; the program is tested before the network, and the network before the list.
     fresh(2);
     network[cuddystove_at_sensors(2)] = -1;
@@ -333,6 +336,60 @@ static void networks(void) {
     program_length--;
     refused_call("1 before 11", EVENT, LIST(FIRE(1)), 1, 5);
     refused_call("1 before 11", RUN, EMPTY, 1, 5);
+}
+
+// A slot that was heard asks for an age, and the age's cell offends; an age asks for no slot.
+static void networks_of_ages(void) {
+    const size_t age = cuddystove_at_age(9, 2);
+    PROGRAM_IS(counter);
+    refused_cell(age, CUDDYSTOVE_OLDEST + 1);
+    refused_cell(cuddystove_at_age(1, 2), -1);
+    refused_cell(cuddystove_at_age(16, 15), CUDDYSTOVE_INF);
+    refused_cell(cuddystove_at_age(5, 5), 0);
+    refused_cell(cuddystove_at_age(16, 16), CUDDYSTOVE_OLDEST);
+    for (int slot = 1; slot < CUDDYSTOVE_ROW; slot++) {
+        fresh(2);
+        network[cuddystove_at_heard(9, 2, slot)] = -slot;
+        refused_call("a slot without an age", RUN, EMPTY, 11, age);
+        refused_call("a slot without an age", EVENT, LIST(FIRE(1)), 11, age);
+        network[age] = slot % 3;
+        same();
+        expect("a slot with an age", RUN, EMPTY, 0, 0);
+        network[age] = -1;
+        refused_call("a slot with a bad age", RUN, EMPTY, 11, age);
+    }
+    for (int32_t k = 0; k <= CUDDYSTOVE_OLDEST; k++) {
+        fresh(2);
+        network[age] = k;
+        same();
+        expect("an age without a slot", RUN, EMPTY, 0, 0);
+        expect("an age without a slot", BOTH, EMPTY, 0, 0);
+    }
+    // As long as a network was without ages.
+    fresh(2);
+    network_length = 8464;
+    refused_call("fresh without ages", FRESH, EMPTY, 11, 0);
+    refused_call("run without ages", RUN, EMPTY, 11, 0);
+}
+// The lowest cell is named: an age stands behind the pending rows of its device and before the next device.
+static void lowest_of_ages(void) {
+    const size_t age = cuddystove_at_age(9, 2);
+    fresh(2);
+    network[cuddystove_at_distance(9, 2)] = 40;
+    same();
+    expect("a distance without an age", RUN, EMPTY, 0, 0);
+    network[cuddystove_at_heard(9, 2, 1)] = 5;
+    network[cuddystove_at_heard(9, 16, 15)] = 5;
+    network[cuddystove_at_sensors(10)] = -1;
+    refused_call("the lower of two ages, before the next device", RUN, EMPTY, 11, age);
+    network[cuddystove_at_pending(9, 16, 15)] = 0;
+    refused_call("a pending slot before an age", RUN, EMPTY, 11, cuddystove_at_pending(9, 16, 15));
+    network[cuddystove_at_sensors(8)] = -1;
+    refused_call("the device before it", RUN, EMPTY, 11, cuddystove_at_sensors(8));
+    // Of a device's own row the slot's cell offends, as before.
+    fresh(2);
+    network[cuddystove_at_heard(9, 9, 3)] = 5;
+    refused_call("a slot heard from itself", RUN, EMPTY, 11, cuddystove_at_heard(9, 9, 3));
 }
 
 static void lists(void) {
@@ -382,7 +439,9 @@ static void events(void) {
     after[cuddystove_at_is_pending(2, 9)] = 0;
     after[cuddystove_at_pending(2, 9, 3)] = CUDDYSTOVE_MARK;
     after[cuddystove_at_heard(9, 2, 3)] = 5;
+    after[cuddystove_at_age(9, 2)] = 0;
     one_event("deliver", LIST(DELIVER(2, 9)), 0, 0);
+    after[cuddystove_at_age(9, 2)] = 1;
     one_event("fire of one that heard", LIST(FIRE(9)), 0, 105);
     after[cuddystove_at_is_pending(2, 9)] = 1;
     after[cuddystove_at_pending(2, 9, 3)] = 5;
@@ -423,7 +482,7 @@ static void events(void) {
     one_event("rep, second", LIST(FIRE(16)), 0, 1);
 }
 
-// ---- Rounds of devices that have heard others, worked out from 01
+// ---- Rounds of devices that have heard others, worked out from 01 and L1
 
 // A fire of a: what was pending goes, and each b with a link from a gets a message, as yet without slots.
 static void message(int a) {
@@ -438,31 +497,55 @@ static void sends(int a, int slot, int32_t number) {
         if (after[cuddystove_at_is_pending(a, b)]) after[cuddystove_at_pending(a, b, slot)] = number;
     }
 }
-// The message pending from a to b arrives: what b heard from a becomes just that, absent slots too.
+// A round of a: what it has heard is a round older, and what three rounds have read is gone, but for the distance.
+static void ages(int a) {
+    for (int b = 1; b <= CUDDYSTOVE_DEVICES; b++) {
+        const size_t age = cuddystove_at_age(a, b);
+        if (after[age] == CUDDYSTOVE_MARK || ++after[age] < 3) continue;
+        after[age] = CUDDYSTOVE_MARK;
+        for (int i = 1; i < CUDDYSTOVE_ROW; i++) after[cuddystove_at_heard(a, b, i)] = CUDDYSTOVE_MARK;
+    }
+}
+// The message pending from a to b arrives: what b heard from a becomes just that, absent slots too, at age 0.
 static void arrives(const char *what, int a, int b) {
     for (int i = 1; i < CUDDYSTOVE_ROW; i++) {
         after[cuddystove_at_heard(b, a, i)] = after[cuddystove_at_pending(a, b, i)];
         after[cuddystove_at_pending(a, b, i)] = CUDDYSTOVE_MARK;
     }
     after[cuddystove_at_is_pending(a, b)] = 0;
+    after[cuddystove_at_age(b, a)] = 0;
     one_event(what, LIST(DELIVER(a, b)), 0, 0);
+}
+// A cell of which the compiler cannot see that there is one.
+static size_t there(size_t cell) {
+    if (cell == CUDDYSTOVE_NO_CELL) _exit(7);
+    return cell;
 }
 // What was before: written into the network, then same().
 static void linked(int a, int b, int32_t distance) { network[cuddystove_at_distance(a, b)] = distance; }
-static void heard(int a, int b, int slot, int32_t number) { network[cuddystove_at_heard(a, b, slot)] = number; }
-static void fires(const char *what, int a, int32_t value) { one_event(what, LIST(FIRE(a)), 0, value); }
+static void heard(int a, int b, int slot, int32_t number) {
+    network[there(cuddystove_at_heard(a, b, slot))] = number;
+    network[there(cuddystove_at_age(a, b))] = 0;
+}
+static void fires(const char *what, int a, int32_t value) {
+    ages(a);
+    one_event(what, LIST(FIRE(a)), 0, value);
+}
 static void faults(const char *what, int a, int32_t node) {
     same();
     one_event(what, LIST(FIRE(a)), CUDDYSTOVE_DIVIDED_BY_0, node);
 }
-// What a case leaves in a cell, of which the compiler cannot see that there is one.
-static void leaves(size_t cell, int32_t number) {
-    if (cell == CUDDYSTOVE_NO_CELL) _exit(7);
-    after[cell] = number;
-}
+// What a case leaves in such a cell.
+static void leaves(size_t cell, int32_t number) { after[there(cell)] = number; }
 // Just these sensors are lit from now on.
 static void senses(int a, int32_t lit) {
     network[cuddystove_at_sensors(a)] = lit;
+    same();
+}
+
+// What 2 has heard in 01's run (iii), from 1 and 3
+static void hears_as_in_iii(void) {
+    heard(2, 1, 1, 10), heard(2, 3, 1, CUDDYSTOVE_INF), heard(2, 1, 2, 0), heard(2, 3, 2, 0);
     same();
 }
 
@@ -472,6 +555,7 @@ static void distances(void) {
     fresh(3);
     linked(2, 1, 10);
     heard(1, 2, 2, 0);
+    network[cuddystove_at_age(1, 2)] = 2;
     same();
     message(2);
     after[cuddystove_at_variable(2, 0)] = CUDDYSTOVE_INF;
@@ -481,8 +565,7 @@ static void distances(void) {
     fresh(3);
     network[cuddystove_at_variable(2, 0)] = CUDDYSTOVE_INF;
     linked(2, 1, 10), linked(2, 3, 10);
-    heard(2, 1, 1, 10), heard(2, 3, 1, CUDDYSTOVE_INF), heard(2, 1, 2, 0), heard(2, 3, 2, 0);
-    same();
+    hears_as_in_iii();
     message(2), sends(2, 1, CUDDYSTOVE_INF), sends(2, 2, 0);
     after[cuddystove_at_variable(2, 0)] = 20;
     fires("01's run (iii)", 2, 20);
@@ -494,10 +577,11 @@ static void distances(void) {
     message(2), sends(2, 1, 20), sends(2, 2, 0);
     after[cuddystove_at_variable(2, 0)] = 0;
     fires("distance-to, lit", 2, 0);
-    // The link to 1 has ended, so 1 is out of nbr-range, and no message goes to it: inf + 10.
+    // Three rounds have read what was heard: as much is heard again. The link to 1 has ended, so 1 is out of nbr-range, and no message
+    // goes to it: inf + 10.
     senses(2, 0);
     linked(2, 1, CUDDYSTOVE_MARK);
-    same();
+    hears_as_in_iii();
     message(2), sends(2, 1, 0), sends(2, 2, 0);
     after[cuddystove_at_variable(2, 0)] = CUDDYSTOVE_INF;
     fires("distance-to, a link that has ended", 2, CUDDYSTOVE_INF);
@@ -527,12 +611,13 @@ static void distances(void) {
         answer(7 + 7 * round, 0, values[round][1]);
         answer(10 + 7 * round, 0, values[round][2]);
     }
-    static const struct { uint8_t a, b; int32_t distance, slot1; } last[] = {{2, 1, 40, 0}, {1, 2, 40, 40}, {3, 2, 30, 40},
-                                                                            {2, 3, 30, CUDDYSTOVE_INF}};
+    static const struct { uint8_t a, b; int32_t distance, slot1, age; } last[] = {
+        {2, 1, 40, 0, 1}, {1, 2, 40, 40, 0}, {3, 2, 30, 40, 1}, {2, 3, 30, CUDDYSTOVE_INF, 0}};
     for (int i = 0; i < 4; i++) {
         leaves(cuddystove_at_distance(last[i].a, last[i].b), last[i].distance);
         leaves(cuddystove_at_heard(last[i].a, last[i].b, 1), last[i].slot1);
         leaves(cuddystove_at_heard(last[i].a, last[i].b, 2), 0);
+        leaves(cuddystove_at_age(last[i].a, last[i].b), last[i].age);
     }
     after[cuddystove_at_sensors(1)] = 1 << 1;
     after[cuddystove_at_variable(1, 0)] = 0;
@@ -564,6 +649,8 @@ static void choices(void) {
     after[cuddystove_at_variable(5, 0)] = 0;
     after[cuddystove_at_variable(5, 15)] = CUDDYSTOVE_MARK;
     fires("if, then", 5, 0 + 30 + 12);
+    heard(5, 6, 15, 30), heard(5, 9, 15, 12);
+    same();
     message(5), sends(5, 15, 7);
     after[cuddystove_at_variable(5, 0)] = 1;
     fires("if, then again", 5, 1 + 30 + 12);
@@ -662,17 +749,17 @@ static void folds(void) {
     heard(2, 1, 1, 3), heard(2, 3, 1, 9), heard(2, 16, 1, 30);
     same();
     // 1 x 2 - 3 / 3 = 1, 1 x 2 - 9 / 3 = -1, -1 x 2 - 30 / 3 = -12: then, 7 x 6 - 5 / 2 = 40; the rep of the other side goes on.
-    for (int round = 0; round < 4; round++) {
+    for (int round = 0; round < 3; round++) {
         message(2), sends(2, 1, 9);
         after[cuddystove_at_variable(2, 0)] = 1 << round;
         fires("a fold by definition, mux, calls", 2, 40);
     }
-    // -1 x 2 - 33 / 3 = -13: else.
-    heard(2, 16, 1, 33);
+    // Heard again; -1 x 2 - 33 / 3 = -13: else.
+    heard(2, 1, 1, 3), heard(2, 3, 1, 9), heard(2, 16, 1, 33);
     same();
     message(2), sends(2, 1, 9);
-    after[cuddystove_at_variable(2, 0)] = 16;
-    fires("mux, else", 2, 16);
+    after[cuddystove_at_variable(2, 0)] = 8;
+    fires("mux, else", 2, 8);
 
     // Divisions in a definition and over fields: the node that divides is named.
     PROGRAM_IS(calls_over);
@@ -699,6 +786,137 @@ static void folds(void) {
     for (int b = 1; b < 16; b++) heard(16, b, 3, b);
     same();
     fires("a fold over fifteen", 16, 100 + 120);
+}
+
+// ---- What was heard fades: ages written out
+
+// 2 and 9 have links to each other, and 2 has sent 5 in slot 3.
+static void sent_to_9(void) {
+    PROGRAM_IS(gossip);
+    fresh(2);
+    linked(2, 9, 40), linked(9, 2, 70);
+    same();
+    message(2), sends(2, 3, 5);
+    fires("2 sends", 2, 100);
+}
+// A round of 9 gives this sum, and leaves its age for 2 and slot 3 of what it heard so. The link to 2 stays, and a message goes there.
+static void round_of_9(const char *what, int32_t sum, int32_t age, int32_t slot) {
+    message(9), sends(9, 3, 5);
+    after[cuddystove_at_age(9, 2)] = age;
+    after[cuddystove_at_heard(9, 2, 3)] = slot;
+    one_event(what, LIST(FIRE(9)), 0, sum);
+}
+// Three rounds read a message, and it is gone for the fourth. A fault between them counts for nothing, nor does what is refused.
+static void three_rounds(void) {
+    sent_to_9();
+    arrives("2 is heard", 2, 9);
+    round_of_9("the first round reads it", 105, 1, 5);
+    PROGRAM_IS(divides);
+    faults("a fault ages nothing", 9, 2);
+    PROGRAM_IS(gossip);
+    one_event("14 ages nothing", LIST(FIRE(0)), CUDDYSTOVE_BAD_ITEM, 0);
+    one_event("16 sets no age", LIST(DELIVER(2, 9)), CUDDYSTOVE_NOTHING_PENDING, 0);
+    one_event("15 sets no age", LIST(DELIVER(9, 9)), CUDDYSTOVE_ITSELF, 0);
+    round_of_9("the second round reads it", 105, 2, 5);
+    PROGRAM_IS(divides);
+    faults("a fault before it would fade", 9, 2);
+    PROGRAM_IS(gossip);
+    round_of_9("the third round reads it", 105, CUDDYSTOVE_MARK, CUDDYSTOVE_MARK);
+    round_of_9("the fourth does not", 100, CUDDYSTOVE_MARK, CUDDYSTOVE_MARK);
+}
+// A second receipt counts anew; a loss, links and signals count for nothing.
+static void heard_anew(void) {
+    sent_to_9();
+    arrives("2 is heard", 2, 9);
+    round_of_9("the first round", 105, 1, 5);
+    round_of_9("the second round", 105, 2, 5);
+    message(2), sends(2, 3, 5);
+    fires("2 sends again", 2, 100);
+    after[cuddystove_at_is_pending(2, 9)] = 0;
+    after[cuddystove_at_pending(2, 9, 3)] = CUDDYSTOVE_MARK;
+    one_event("a loss sets no age", LIST(LOSE(2, 9)), 0, 0);
+    after[cuddystove_at_distance(9, 2)] = 0;
+    one_event("a link sets no age", LIST(LINK(9, 2, 0)), 0, 0);
+    after[cuddystove_at_sensors(9)] = 1;
+    one_event("a signal sets no age", LIST(SIGNAL(9, 0, 1)), 0, 0);
+    message(2), sends(2, 3, 5);
+    fires("2 sends once more", 2, 100);
+    arrives("2 is heard again", 2, 9);
+    round_of_9("the first round after it", 105, 1, 5);
+    round_of_9("the second round after it", 105, 2, 5);
+    round_of_9("the third round after it", 105, CUDDYSTOVE_MARK, CUDDYSTOVE_MARK);
+    round_of_9("the fourth round after it", 100, CUDDYSTOVE_MARK, CUDDYSTOVE_MARK);
+}
+// An empty message has an age too.
+static void empty_message(void) {
+    sent_to_9();
+    arrives("2 is heard", 2, 9);
+    round_of_9("a round", 105, 1, 5);
+    PROGRAM_IS(counter);
+    message(2);
+    after[cuddystove_at_variable(2, 0)] = 0;
+    fires("2 sends no slot", 2, 0);
+    arrives("an empty message", 2, 9);
+    PROGRAM_IS(gossip);
+    round_of_9("nothing to read, first", 100, 1, CUDDYSTOVE_MARK);
+    round_of_9("nothing to read, second", 100, 2, CUDDYSTOVE_MARK);
+    round_of_9("nothing to read, third", 100, CUDDYSTOVE_MARK, CUDDYSTOVE_MARK);
+}
+// Each sender has its age, also where the program reads nothing, and only the device that fires gets older.
+static void each_age(void) {
+    PROGRAM_IS(counter);
+    fresh(2);
+    linked(9, 16, 30);
+    heard(9, 1, 1, 7), heard(9, 4, 3, 8), heard(9, 16, 1, 1), heard(9, 16, 15, 9), heard(2, 9, 1, 6), heard(16, 9, 1, 6);
+    network[cuddystove_at_age(9, 4)] = 1;
+    network[cuddystove_at_age(9, 16)] = network[cuddystove_at_age(2, 9)] = 2;
+    network[cuddystove_at_age(9, 5)] = 2; // of an empty message
+    same();
+    after[cuddystove_at_age(9, 1)] = 1;
+    after[cuddystove_at_age(9, 4)] = 2;
+    after[cuddystove_at_age(9, 5)] = after[cuddystove_at_age(9, 16)] = CUDDYSTOVE_MARK;
+    after[cuddystove_at_heard(9, 16, 1)] = after[cuddystove_at_heard(9, 16, 15)] = CUDDYSTOVE_MARK;
+    after[cuddystove_at_is_pending(9, 16)] = 1;
+    after[cuddystove_at_variable(9, 0)] = 0;
+    one_event("each age by itself", LIST(FIRE(9)), 0, 0);
+    // All that a device can have heard.
+    for (int a = 1; a <= CUDDYSTOVE_DEVICES; a += CUDDYSTOVE_DEVICES - 1) {
+        fresh(2);
+        for (int b = 1; b <= CUDDYSTOVE_DEVICES; b++) {
+            for (int i = 1; b != a && i < CUDDYSTOVE_ROW; i++) heard(a, b, i, b * i);
+        }
+        same();
+        for (int32_t round = 0; round < 4; round++) {
+            leaves(cuddystove_at_variable(a, 0), round);
+            fires("fifteen senders, fifteen slots", a, round);
+        }
+    }
+}
+// As one list; and in another order, in which events that clash keep theirs: the ages end equal too.
+static void ages_in_lists(void) {
+    static const uint8_t one[] = {LINK(1, 2, 10), LINK(3, 2, 20), FIRE(1),       FIRE(3), DELIVER(1, 2),
+                                  FIRE(2),        FIRE(1),        DELIVER(3, 2), FIRE(2), FIRE(2)};
+    static const uint8_t two[] = {LINK(3, 2, 20), FIRE(3), LINK(1, 2, 10), FIRE(1), DELIVER(1, 2),
+                                  FIRE(1),        FIRE(2), DELIVER(3, 2),  FIRE(2), FIRE(2)};
+    static const int32_t values1[] = {0, 0, 100, 100, 0, 105, 100, 0, 110, 110}, values2[] = {0, 100, 0, 100, 0, 100, 105, 0, 110, 110};
+    PROGRAM_IS(gossip);
+    fresh(20);
+    after[cuddystove_at_distance(1, 2)] = 10;
+    after[cuddystove_at_distance(3, 2)] = 20;
+    after[cuddystove_at_is_pending(1, 2)] = 1; // of its second round
+    after[cuddystove_at_pending(1, 2, 3)] = 5;
+    after[cuddystove_at_heard(2, 3, 3)] = 5; // three rounds of 2 have read what 1 sent first, two what 3 sent
+    after[cuddystove_at_age(2, 3)] = 2;
+    for (int k = 0; k < 10; k++) answer(k, 0, values1[k]);
+    expect("ages in a list", RUN, one, sizeof one, 0, 0);
+    for (int k = 0; k < 10; k++) answer(k, 0, values2[k]);
+    expect("ages in a list of another order", RUN, two, sizeof two, 0, 0);
+    int32_t *n1 = lend(NETWORK, network, 4 * CUDDYSTOVE_CELLS, LAST), *n2 = lend(NETWORK2, network, 4 * CUDDYSTOVE_CELLS, LAST);
+    int32_t *s1 = lend(SPACE, space, 80, LAST), *s2 = lend(SPACE2, space, 80, LAST);
+    struct cuddystove_verdicts v = cuddystove_run_both(gossip, sizeof gossip, n1, CUDDYSTOVE_CELLS, n2, CUDDYSTOVE_CELLS, one, sizeof one,
+                                                       two, sizeof two, s1, 20, s2, 20);
+    judge("ages in two orders", v.number1 == 0 && v.number2 == 0 && memcmp(n1, after, 4 * CUDDYSTOVE_CELLS) == 0 &&
+                                    memcmp(n2, after, 4 * CUDDYSTOVE_CELLS) == 0 && memcmp(s2, answered, 80) == 0);
 }
 
 // The program is one operator on two constants.
@@ -808,11 +1026,18 @@ int main(void) {
     make_rooms();
     programs();
     networks();
+    networks_of_ages();
+    lowest_of_ages();
     lists();
     events();
     distances();
     choices();
     folds();
+    three_rounds();
+    heard_anew();
+    empty_message();
+    each_age();
+    ages_in_lists();
     operators();
     orders();
     say_number(passed);

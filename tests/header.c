@@ -13,15 +13,17 @@ static_assert(offsetof(struct cuddystove_verdicts, number1) == 0 && offsetof(str
 static_assert(offsetof(struct cuddystove_verdicts, number2) == 16 && offsetof(struct cuddystove_verdicts, place2) == 24, "verdict 2");
 
 static_assert(CUDDYSTOVE_MARK == -2147483647 - 1 && CUDDYSTOVE_FLOOR == -2147483647 && CUDDYSTOVE_INF == 2147483647, "numbers");
-static_assert(CUDDYSTOVE_DEVICES == 16 && CUDDYSTOVE_BLOCK == 529 && CUDDYSTOVE_CELLS == 8464, "network");
+static_assert(CUDDYSTOVE_DEVICES == 16 && CUDDYSTOVE_BLOCK == 545 && CUDDYSTOVE_CELLS == 8720, "network");
 static_assert(CUDDYSTOVE_DEVICES * CUDDYSTOVE_BLOCK == CUDDYSTOVE_CELLS, "blocks");
 static_assert(CUDDYSTOVE_VARIABLES == 16 && CUDDYSTOVE_SENSORS == 16 && CUDDYSTOVE_ROW == 16, "counts");
-static_assert(CUDDYSTOVE_FARTHEST == 1000000 && CUDDYSTOVE_LARGEST_COST == 1000000, "largest");
+static_assert(CUDDYSTOVE_FARTHEST == 1000000 && CUDDYSTOVE_OLDEST == 2 && CUDDYSTOVE_LARGEST_COST == 1000000, "largest");
 static_assert(CUDDYSTOVE_NODES == 256 && CUDDYSTOVE_DEFINITIONS == 32 && CUDDYSTOVE_PARAMETERS == 4, "table");
 
-static_assert(CUDDYSTOVE_FIRST_SENSORS == 16 && CUDDYSTOVE_FIRST_HEARD == 17 && CUDDYSTOVE_FIRST_PENDING == 273, "in a block");
+static_assert(CUDDYSTOVE_FIRST_SENSORS == 16 && CUDDYSTOVE_FIRST_HEARD == 17, "in a block");
+static_assert(CUDDYSTOVE_FIRST_PENDING == 273 && CUDDYSTOVE_FIRST_AGE == 529, "further in a block");
+static_assert(CUDDYSTOVE_FIRST_AGE + CUDDYSTOVE_DEVICES == CUDDYSTOVE_BLOCK, "the ages end a block");
 static_assert(CUDDYSTOVE_NO_CELL == 0x1fffffff80000000 && CUDDYSTOVE_LONGEST_EVENT == 9 && CUDDYSTOVE_LONGEST_MESSAGE == 64, "for hosts");
-static_assert(CUDDYSTOVE_VERSION_NUMBER == 100, "version");
+static_assert(CUDDYSTOVE_VERSION_NUMBER == 200, "version");
 
 static_assert(CUDDYSTOVE_DONE == 0 && CUDDYSTOVE_BAD_FIELD == 1 && CUDDYSTOVE_TOO_MANY == 2 && CUDDYSTOVE_OUT_OF_RANGE == 3 &&
                   CUDDYSTOVE_NOT_GIVEN == 4 && CUDDYSTOVE_TAKEN == 5 && CUDDYSTOVE_BAD_END == 6 && CUDDYSTOVE_WRONG_SORT == 7 &&

@@ -140,19 +140,21 @@ static void cells(void) {
     int64_t a, b, i;
     int good = 1;
     for (a = 1; a <= 16; a++) {
-        good = good && cuddystove_at_block(a) == CUDDYSTOVE_AS(size_t, 529 * (a - 1));
-        for (i = 0; i < 16; i++) good = good && is_cell(cuddystove_at_variable(a, i), 529 * (a - 1) + i);
-        good = good && is_cell(cuddystove_at_sensors(a), 529 * (a - 1) + 16);
+        const int64_t block = 545 * (a - 1);
+        good = good && cuddystove_at_block(a) == CUDDYSTOVE_AS(size_t, block);
+        for (i = 0; i < 16; i++) good = good && is_cell(cuddystove_at_variable(a, i), block + i);
+        good = good && is_cell(cuddystove_at_sensors(a), block + 16);
         for (b = 1; b <= 16; b++) {
-            good = good && is_cell(cuddystove_at_distance(a, b), 529 * (a - 1) + 17 + 16 * (b - 1));
-            good = good && is_cell(cuddystove_at_is_pending(a, b), 529 * (a - 1) + 273 + 16 * (b - 1));
+            good = good && is_cell(cuddystove_at_distance(a, b), block + 17 + 16 * (b - 1));
+            good = good && is_cell(cuddystove_at_is_pending(a, b), block + 273 + 16 * (b - 1));
+            good = good && is_cell(cuddystove_at_age(a, b), block + 529 + (b - 1));
             for (i = 1; i < 16; i++) {
-                good = good && is_cell(cuddystove_at_heard(a, b, i), 529 * (a - 1) + 17 + 16 * (b - 1) + i);
-                good = good && is_cell(cuddystove_at_pending(a, b, i), 529 * (a - 1) + 273 + 16 * (b - 1) + i);
+                good = good && is_cell(cuddystove_at_heard(a, b, i), block + 17 + 16 * (b - 1) + i);
+                good = good && is_cell(cuddystove_at_pending(a, b, i), block + 273 + 16 * (b - 1) + i);
             }
         }
     }
-    judge("each cell where 01 has it", good);
+    judge("each cell where 01 and L1 have it", good);
     for (i = 0; i < CUDDYSTOVE_CELLS; i++) good = good && seen[i] == 1;
     judge("each cell by one function", good);
 }
@@ -165,7 +167,8 @@ static int no_cell(int64_t device, int64_t variable, int64_t slot) {
            cuddystove_at_is_pending(1, device) == none && cuddystove_at_heard(device, 1, 1) == none &&
            cuddystove_at_heard(1, device, 1) == none && cuddystove_at_heard(1, 2, slot) == none &&
            cuddystove_at_pending(device, 1, 1) == none && cuddystove_at_pending(1, device, 1) == none &&
-           cuddystove_at_pending(1, 2, slot) == none;
+           cuddystove_at_pending(1, 2, slot) == none && cuddystove_at_age(device, 1) == none && cuddystove_at_age(1, device) == none &&
+           cuddystove_at_age(device, device) == none;
 }
 static void no_cells(void) {
     size_t i;
@@ -308,25 +311,44 @@ static void puts_refuses(void) {
                                                      cuddystove_put(network, CUDDYSTOVE_CELLS, empty, 4) == 4 &&
                                                      network[cuddystove_at_pending(1, 2, 1)] == CUDDYSTOVE_MARK);
 }
-// (fold-hood* + 100 (nbr 5)), by slot 3: 2 fires, 9 receives it on a network of its own and fires.
+// (fold-hood* + 100 (nbr 5)), by slot 3
+static const uint8_t gossip[] = {1, 0, 5, 0, 0, 0, 0, 100, 1, 0, 5, 0, 0, 0, 0, 5, 1, 0, 3, 8, 3, 1, 1, 0, 4, 10, 0, 0, 2, 3, 0, 1, 3};
+// The value of the event that was just added, done on these cells; -1 where it was not done. The list is empty then.
+static int32_t does(int32_t *cells_of, size_t written) {
+    int32_t answer[2] = {-1, -1};
+    const uint32_t number = cuddystove_event(gossip, sizeof gossip, cells_of, CUDDYSTOVE_CELLS, bytes, list.length, answer, 2).number;
+    list.length = 0;
+    return written > 0 && number == CUDDYSTOVE_DONE && answer[0] == CUDDYSTOVE_DONE ? answer[1] : -1;
+}
+// A round of 9 gives this value, and 9's age for 2 is this after it.
+static void reads(const char *what, int32_t value, int32_t age) {
+    judge(what, does(other, add('f', 9, 0, 0)) == value && other[cuddystove_at_age(9, 2)] == age);
+}
+// 2 fires, 9 receives its message on a network of its own and fires. The receipt sets the age, and rounds add to it; take and put don't.
 static void between_tablets(void) {
-    static const uint8_t program[] = {1, 0, 5, 0, 0, 0, 0, 100, 1, 0, 5, 0, 0, 0, 0, 5, 1, 0, 3, 8, 3, 1, 1, 0, 4, 10, 0, 0, 2, 3, 0, 1, 3};
-    int32_t answers[4] = {-1, -1, -1, -1};
+    const size_t age = cuddystove_at_age(9, 2);
     size_t length;
     start(20);
     list.length = 0;
     fresh(network);
     fresh(other);
-    judge("tablet 2: link, fire", add('k', 2, 9, 40) == 9 && add('f', 2, 0, 0) == 4 &&
-                                      cuddystove_run(program, sizeof program, network, CUDDYSTOVE_CELLS, bytes, list.length, answers, 4).number == 0);
+    judge("tablet 2: link, fire", does(network, add('k', 2, 9, 40)) == 0 && does(network, add('f', 2, 0, 0)) == 100);
     length = cuddystove_take(network, CUDDYSTOVE_CELLS, 2, 9, message, MOST);
-    judge("tablet 2: take", length == 8 && answers[3] == 100);
-    list.length = 0;
-    judge("tablet 9: put, deliver, fire",
-          cuddystove_put(other, CUDDYSTOVE_CELLS, message, length) == 8 && cuddystove_add_deliver(&list, message[0], message[1]) == 5 &&
-              add('f', 9, 0, 0) == 4 &&
-              cuddystove_run(program, sizeof program, other, CUDDYSTOVE_CELLS, bytes, list.length, answers, 4).number == 0);
-    judge("tablet 9 heard it", answers[0] == 0 && answers[2] == 0 && answers[3] == 105 && other[cuddystove_at_heard(9, 2, 3)] == 5);
+    judge("tablet 2: take", length == 8);
+    judge("tablet 9: put", cuddystove_put(other, CUDDYSTOVE_CELLS, message, length) == 8 && other[age] == CUDDYSTOVE_MARK);
+    judge("tablet 9: deliver", does(other, cuddystove_add_deliver(&list, message[0], message[1])) == 0 && other[age] == 0);
+    judge("tablet 9 heard it", other[cuddystove_at_heard(9, 2, 3)] == 5);
+    reads("a first round", 105, 1);
+    reads("a second round", 105, 2);
+    judge("put at age 2", cuddystove_put(other, CUDDYSTOVE_CELLS, message, length) == 8 && other[age] == 2);
+    judge("take at age 2", cuddystove_take(other, CUDDYSTOVE_CELLS, 2, 9, message, MOST) == 8 && other[age] == 2);
+    judge("put once more", cuddystove_put(other, CUDDYSTOVE_CELLS, message, length) == 8);
+    judge("a second receipt", does(other, add('d', 2, 9, 0)) == 0 && other[age] == 0);
+    reads("a first round of it", 105, 1);
+    reads("a second round of it", 105, 2);
+    reads("the last round that reads it", 105, CUDDYSTOVE_MARK);
+    judge("it has faded", other[cuddystove_at_heard(9, 2, 3)] == CUDDYSTOVE_MARK);
+    reads("a round without it", 100, CUDDYSTOVE_MARK);
 }
 
 // ---- Refusals in words

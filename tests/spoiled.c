@@ -10,6 +10,9 @@ enum spoil {
     READS_BEFORE_LIST,        // event
     NEVER_STORES,             // event: the answers are right
     WRITES_A_CELL,            // event: one that no event here has to do with
+    KEEPS_THE_AGES,           // event: a fire ages nothing
+    AGES_A_FAULT,             // event: a fire that divides by 0 ages too
+    FADES_THE_DISTANCE,       // event: with the slots of a sender
     WRITES_BEYOND_SPACE,      // run
     WRITES_THE_PROGRAM,       // run: the byte that was there
     WRONG_PLACE,              // run: of a refusal
@@ -44,6 +47,15 @@ struct cuddystove_verdict __wrap_cuddystove_fresh(int32_t *network, size_t lengt
     return v;
 }
 
+// What an event of `tag`, answered by `answer`, made of one age, made wrong.
+static void spoil_age(int32_t *network, const int32_t *kept, int a, int b, uint8_t tag, int32_t answer) {
+    const size_t age = cuddystove_at_age(a, b);
+    const int fires = tag == CUDDYSTOVE_TAG_FIRE, had = kept[age] != CUDDYSTOVE_MARK, has = network[age] != CUDDYSTOVE_MARK;
+    if (SPOIL == KEEPS_THE_AGES && fires) network[age] = kept[age];
+    if (SPOIL == AGES_A_FAULT && fires && had && answer == CUDDYSTOVE_DIVIDED_BY_0) network[age]++;
+    if (SPOIL == FADES_THE_DISTANCE && had && !has) network[cuddystove_at_distance(a, b)] = CUDDYSTOVE_MARK;
+}
+
 struct cuddystove_verdict __wrap_cuddystove_event(PROGRAM, REST) {
     static int32_t kept[CUDDYSTOVE_CELLS];
     const int whole = network_length == CUDDYSTOVE_CELLS;
@@ -54,6 +66,9 @@ struct cuddystove_verdict __wrap_cuddystove_event(PROGRAM, REST) {
     for (int a = 1; SPOIL == NEVER_STORES && whole && a <= CUDDYSTOVE_DEVICES; a++)
         memcpy(network + cuddystove_at_variable(a, 0), kept + cuddystove_at_variable(a, 0), 4 * CUDDYSTOVE_VARIABLES);
     if (SPOIL == WRITES_A_CELL && whole && v.number == 0) network[cuddystove_at_heard(13, 12, 11)] = 0;
+    for (int a = 1; whole && v.number == 0 && a <= CUDDYSTOVE_DEVICES; a++) {
+        for (int b = 1; b <= CUDDYSTOVE_DEVICES; b++) spoil_age(network, kept, a, b, list[0], space[0]);
+    }
     return v;
 }
 

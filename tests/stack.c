@@ -205,7 +205,7 @@ static void *fresh(void *unused) {
     return unused;
 }
 
-// Device 1 with sensor 1 lit, every variable 1, and each other device at 10, heard with 0 in slot 1: folds go over fifteen devices.
+// Device 1 with sensor 1 lit, every variable 1, and each other device at 10, just heard with 0 in slot 1: folds go over fifteen devices.
 static void prepare(int32_t *cells) {
     if (cuddystove_fresh(cells, CUDDYSTOVE_CELLS).number != CUDDYSTOVE_DONE) exit(1);
     cells[cuddystove_at_sensors(1)] = 1 << 1;
@@ -213,6 +213,7 @@ static void prepare(int32_t *cells) {
     for (int b = 2; b <= CUDDYSTOVE_DEVICES; b++) {
         cells[cuddystove_at_distance(1, b)] = 10;
         cells[cuddystove_at_heard(1, b, 1)] = 0;
+        cells[cuddystove_at_age(1, b)] = 0;
     }
 }
 

@@ -2,7 +2,7 @@
 /// A part is an expression, or statements (with a `;`) that leave no name behind.
 const EDITS: &[(&str, &str, &str, &str)] = &[
     // 01's five shortcuts.
-    ("shortcut: merges a receipt slot by slot", "event.rs", "«field.remove(&a);»", ""),
+    ("shortcut: merges a receipt slot by slot", "network.rs", "«self.heard.insert(from, message);»", "self.heard.entry(from).or_default().extend(message);"),
     (
         "shortcut: sends from a rep's update in its first round",
         "round.rs",
@@ -135,7 +135,7 @@ const EDITS: &[(&str, &str, &str, &str)] = &[
         "self.variables.retain(|v, _| !other.variables.contains(v) && !taken.variables.contains(v));",
     ),
     // Events.
-    ("deliver overwrites slot 0", "event.rs", "let hearer = «network.device(b)»;", "network.device(b).distances.remove(&a); network.device(b)"),
+    ("deliver overwrites slot 0", "network.rs", "«self.heard.insert(from, message);»", "self.heard.insert(from, message); self.distances.remove(&from);"),
     (
         "deliver keeps the message",
         "event.rs",
@@ -356,9 +356,9 @@ const EDITS: &[(&str, &str, &str, &str)] = &[
     // More of the events.
     ("fire sends nothing at distance 0", "event.rs", "device.pending = «device.distances.keys().map(|b| (*b, outcome.sent.clone())).collect()»;", "device.distances.iter().filter(|(_, d)| **d != 0).map(|(b, _)| (*b, outcome.sent.clone())).collect()"),
     ("fire sends to the lowest device only", "event.rs", "device.pending = «device.distances.keys().map(|b| (*b, outcome.sent.clone())).collect()»;", "device.distances.keys().take(1).map(|b| (*b, outcome.sent.clone())).collect()"),
-    ("deliver forgets other senders", "event.rs", "«field.remove(&a);»", "field.clear();"),
-    ("deliver forgets slot 15", "event.rs", "«hearer.heard.entry(slot).or_default().insert(a, number);»", "if slot != 15 { hearer.heard.entry(slot).or_default().insert(a, number); }"),
-    ("lose forgets what was heard", "event.rs", "=> {\n                «network.device(a).pending.remove(&b);»", "network.device(a).pending.remove(&b); for field in network.device(b).heard.values_mut() { field.remove(&a); }"),
+    ("deliver forgets other senders", "network.rs", "«self.heard.insert(from, message);»", "self.heard.clear(); self.heard.insert(from, message);"),
+    ("deliver forgets slot 15", "network.rs", "«self.heard.insert(from, message);»", "self.heard.insert(from, message.into_iter().filter(|(slot, _)| *slot != 15).collect());"),
+    ("lose forgets what was heard", "event.rs", "=> {\n                «network.device(a).pending.remove(&b);»", "network.device(a).pending.remove(&b); network.device(b).heard.remove(&a);"),
     ("signal puts out other sensors", "event.rs", "«network.device(a).lit.insert(sensor);»", "network.device(a).lit = [sensor].into_iter().collect();"),
     ("a link's distance is one byte", "event.rs", "«network.device(a).distances.insert(b, distance);»", "network.device(a).distances.insert(b, distance & 255);"),
     ("a new distance drops the message", "event.rs", "«network.device(a).distances.insert(b, distance);»", "network.device(a).distances.insert(b, distance); network.device(a).pending.remove(&b);"),
@@ -422,5 +422,218 @@ const EDITS: &[(&str, &str, &str, &str)] = &[
     ("a space longer by 64 is refused", "lib.rs", "if «answers.len() < 2 * events.len()»", "answers.len() < 2 * events.len() || answers.len() >= 2 * events.len() + 64"),
     ("a space longer by 5,000 is refused", "lib.rs", "if «answers.len() < 2 * events.len()»", "answers.len() < 2 * events.len() || answers.len() >= 2 * events.len() + 5_000"),
     ("far space beyond the pairs is cleared", "lib.rs", "«network.encode(cells);»", "network.encode(cells); for rest in answers.iter_mut().skip(2 * events.len() + 63) { *rest = 0; }"),
+    // Ages: when they grow.
+    (
+        "a round reads what its end makes fade",
+        "event.rs",
+        "let outcome = «round::evaluate(&program.main, device)»",
+        "let mut faded = device.clone(); faded.fade(); round::evaluate(&program.main, &faded)",
+    ),
+    (
+        "a faulted round ages",
+        "event.rs",
+        "let outcome = «round::evaluate(&program.main, device)»",
+        "let outcome = round::evaluate(&program.main, device); if outcome.is_err() { device.fade(); } outcome",
+    ),
+    ("nothing ages", "event.rs", "«device.fade();»", ""),
+    ("a round ages twice", "event.rs", "«device.fade();»", "device.fade(); device.fade();"),
+    ("a round that sends no slot ages nothing", "event.rs", "«device.fade();»", "if !outcome.sent.is_empty() { device.fade(); }"),
+    (
+        "a round ages only senders that it read",
+        "event.rs",
+        "«device.fade();»",
+        "for (b, left) in device.readings.iter_mut() {
+            let read = device.heard.get(b).is_some_and(|message| message.keys().any(|slot| outcome.sent.contains_key(slot)));
+            *left += i32::from(!read);
+        }
+        device.fade();",
+    ),
+    ("a round ages what every device heard", "event.rs", "«device.fade();»", "network.devices.values_mut().for_each(|other| other.fade());"),
+    (
+        "a round ages what others heard from it",
+        "event.rs",
+        "«device.fade();»",
+        "device.fade();
+        for other in network.devices.values_mut() {
+            let left = other.readings.remove(&a).unwrap_or(0) - 1;
+            if left > 0 { other.readings.insert(a, left); } else { other.heard.remove(&a); }
+        }",
+    ),
+    ("a signal ages", "event.rs", "«network.device(a).lit.insert(sensor);»", "network.device(a).lit.insert(sensor); network.device(a).fade();"),
+    ("only the lowest sender's age grows", "network.rs", "«self.readings.values_mut().for_each(|left| *left -= 1);»", "self.readings.values_mut().take(1).for_each(|left| *left -= 1);"),
+    ("only the highest sender's age grows", "network.rs", "«self.readings.values_mut().for_each(|left| *left -= 1);»", "self.readings.values_mut().rev().take(1).for_each(|left| *left -= 1);"),
+    (
+        "device 16's age does not grow",
+        "network.rs",
+        "«self.readings.values_mut().for_each(|left| *left -= 1);»",
+        "self.readings.iter_mut().filter(|(from, _)| **from != 16).for_each(|(_, left)| *left -= 1);",
+    ),
+    (
+        "only ages of linked senders grow",
+        "network.rs",
+        "«self.readings.values_mut().for_each(|left| *left -= 1);»",
+        "self.readings.iter_mut().filter(|(from, _)| self.distances.contains_key(from)).for_each(|(_, left)| *left -= 1);",
+    ),
+    (
+        "an empty message does not age",
+        "network.rs",
+        "«self.readings.values_mut().for_each(|left| *left -= 1);»",
+        "self.readings.iter_mut().filter(|(from, _)| self.heard.get(from).is_some_and(|message| !message.is_empty())).for_each(|(_, left)| *left -= 1);",
+    ),
+    // Ages: when and what fades.
+    ("what was heard fades at 2", "network.rs", "«self.readings.retain(|_, left| *left > 0);»", "self.readings.retain(|_, left| *left > 1);"),
+    ("what was heard fades at 4", "network.rs", "«self.readings.retain(|_, left| *left > 0);»", "self.readings.retain(|_, left| *left > -1);"),
+    ("an age stops at 2", "network.rs", "«self.readings.retain(|_, left| *left > 0);»", "self.readings.values_mut().for_each(|left| *left = (*left).max(1));"),
+    (
+        "slots fade, the age stays at 2",
+        "network.rs",
+        "«self.readings.retain(|_, left| *left > 0);»",
+        "for (from, left) in &mut self.readings { if *left < 1 { *left = 1; self.heard.remove(from); } }",
+    ),
+    (
+        "slots fade, the age goes on growing",
+        "network.rs",
+        "«self.readings.retain(|_, left| *left > 0);»",
+        "for (from, left) in &self.readings { if *left < 1 { self.heard.remove(from); } }",
+    ),
+    (
+        "the distance fades too",
+        "network.rs",
+        "«self.readings.retain(|_, left| *left > 0);»",
+        "self.readings.retain(|from, left| { if *left < 1 { self.distances.remove(from); } *left > 0 });",
+    ),
+    (
+        "the message pending to the sender fades too",
+        "network.rs",
+        "«self.readings.retain(|_, left| *left > 0);»",
+        "self.readings.retain(|from, left| { if *left < 1 { self.pending.remove(from); } *left > 0 });",
+    ),
+    ("the age fades, slots stay", "network.rs", "«self.heard.retain(|from, _| self.readings.contains_key(from));»", ""),
+    (
+        "only slot 1 fades",
+        "network.rs",
+        "«self.heard.retain(|from, _| self.readings.contains_key(from));»",
+        "for (from, message) in &mut self.heard { if !self.readings.contains_key(from) { message.remove(&1); } }",
+    ),
+    (
+        "slot 15 does not fade",
+        "network.rs",
+        "«self.heard.retain(|from, _| self.readings.contains_key(from));»",
+        "for (from, message) in &mut self.heard { if !self.readings.contains_key(from) { message.retain(|slot, _| *slot == 15); } }",
+    ),
+    // Ages: what sets them.
+    ("a delivery sets no age", "network.rs", "«self.readings.insert(from, READINGS);»", ""),
+    ("a delivery leaves the age", "network.rs", "«self.readings.insert(from, READINGS);»", "self.readings.entry(from).or_insert(READINGS);"),
+    ("a delivery sets the age to 1", "network.rs", "«self.readings.insert(from, READINGS);»", "self.readings.insert(from, READINGS - 1);"),
+    (
+        "a delivery starts every age anew",
+        "network.rs",
+        "«self.readings.insert(from, READINGS);»",
+        "self.readings.insert(from, READINGS); self.readings.values_mut().for_each(|left| *left = READINGS);",
+    ),
+    ("an empty message sets no age", "network.rs", "«self.readings.insert(from, READINGS);»", "if !message.is_empty() { self.readings.insert(from, READINGS); }"),
+    (
+        "an empty message takes the age",
+        "network.rs",
+        "«self.readings.insert(from, READINGS);»",
+        "if message.is_empty() { self.readings.remove(&from); } else { self.readings.insert(from, READINGS); }",
+    ),
+    (
+        "a loss sets the age",
+        "event.rs",
+        "=> {\n                «network.device(a).pending.remove(&b);»",
+        "network.device(a).pending.remove(&b); network.device(b).readings.insert(a, super::network::READINGS);",
+    ),
+    (
+        "a delivery answered 16 sets the age",
+        "event.rs",
+        "Turned { number, value: «0» }",
+        "if let (16, Event::Deliver { a, b }) = (number, self) { network.device(b).readings.insert(a, super::network::READINGS); } 0",
+    ),
+    (
+        "a new distance starts the age anew",
+        "event.rs",
+        "«network.device(a).distances.insert(b, distance);»",
+        "network.device(a).distances.insert(b, distance); network.device(a).readings.entry(b).and_modify(|left| *left = super::network::READINGS);",
+    ),
+    (
+        "ending a link forgets what was heard",
+        "event.rs",
+        "«network.device(a).distances.remove(&b);»",
+        "network.device(a).distances.remove(&b); network.device(a).heard.remove(&b); network.device(a).readings.remove(&b);",
+    ),
+    ("fresh ages are 0", "network.rs", "        _ => «ABSENT»,\n", "if matches!(cell, Cell::Age { .. }) { 0 } else { ABSENT }"),
+    ("ages are not written", "network.rs", "«put(Cell::Age { from: *b }, READINGS - left);»", ""),
+    ("an age is written as the rounds left", "network.rs", "«put(Cell::Age { from: *b }, READINGS - left);»", "put(Cell::Age { from: *b }, *left);"),
+    // Ages: which are sound, and which cell is named.
+    ("no slot asks for an age", "network.rs", "«(1..=15).all(|slot| cells[address(device, Cell::Heard { from, slot })] == ABSENT)»", "true"),
+    (
+        "only slot 1 asks for an age",
+        "network.rs",
+        "«(1..=15).all(|slot| cells[address(device, Cell::Heard { from, slot })] == ABSENT)»",
+        "cells[address(device, Cell::Heard { from, slot: 1 })] == ABSENT",
+    ),
+    (
+        "only slot 15 asks for an age",
+        "network.rs",
+        "«(1..=15).all(|slot| cells[address(device, Cell::Heard { from, slot })] == ABSENT)»",
+        "cells[address(device, Cell::Heard { from, slot: 15 })] == ABSENT",
+    ),
+    (
+        "slot 15 asks for no age",
+        "network.rs",
+        "«(1..=15).all(|slot| cells[address(device, Cell::Heard { from, slot })] == ABSENT)»",
+        "(1..=14).all(|slot| cells[address(device, Cell::Heard { from, slot })] == ABSENT)",
+    ),
+    (
+        "a distance asks for an age",
+        "network.rs",
+        "«(1..=15).all(|slot| cells[address(device, Cell::Heard { from, slot })] == ABSENT)»",
+        "(0..=15).all(|slot| cells[address(device, Cell::Heard { from, slot })] == ABSENT)",
+    ),
+    ("age 3 is sound", "network.rs", "«(0..READINGS).contains(&number)»", "(0..=READINGS).contains(&number)"),
+    ("age 2 is unsound", "network.rs", "«(0..READINGS).contains(&number)»", "(0..READINGS - 1).contains(&number)"),
+    ("an age below 0 is sound", "network.rs", "«(0..READINGS).contains(&number)»", "number < READINGS"),
+    ("an age above 3 is sound", "network.rs", "«(0..READINGS).contains(&number)»", "number >= 0 && number != READINGS"),
+    (
+        "an age asks for a slot",
+        "network.rs",
+        "«(0..READINGS).contains(&number)»",
+        "let Cell::Age { from } = cell else { return false };
+        (0..READINGS).contains(&number) && (1..=15).any(|slot| cells[address(device, Cell::Heard { from, slot })] != ABSENT)",
+    ),
+    (
+        "a device may have an age for itself",
+        "network.rs",
+        "=>\n        {\n            «number == when_fresh(cell)»",
+        "number == when_fresh(cell) || matches!(cell, Cell::Age { .. }) && (0..READINGS).contains(&number)",
+    ),
+    (
+        "11 names the slot that asks for an age",
+        "network.rs",
+        "return refused(11, «place»);",
+        "match cell {
+            Cell::Age { from } if *number == ABSENT => {
+                (1..=15).map(|slot| address(device, Cell::Heard { from, slot })).find(|slot| cells[*slot] != ABSENT).unwrap_or(place)
+            }
+            _ => place,
+        }",
+    ),
+    (
+        "11 names an age before a mark of the same device",
+        "network.rs",
+        "return refused(11, «place»);",
+        "let ages = (1..=16).map(|from| address(device, Cell::Age { from }));
+        ages.into_iter().find(|age| { let (d, c) = meaning(*age); !sound(cells, d, c, cells[*age]) }).unwrap_or(place)",
+    ),
+    (
+        "11 names an age after all other cells",
+        "network.rs",
+        "return refused(11, «place»);",
+        "(0..CELLS).filter(|p| p % BLOCK < 529).find(|p| { let (d, c) = meaning(*p); !sound(cells, d, c, cells[*p]) }).unwrap_or(place)",
+    ),
+    ("a network without ages is sound", "network.rs", "if «cells.len() != CELLS» {", "cells.len() != CELLS && cells.len() != 8_464"),
+    ("fresh takes a network without ages", "lib.rs", "«network.len() != network::CELLS»", "network.len() != network::CELLS && network.len() != 8_464"),
+    // A long list.
     ("a run does at most 16,384 events", "lib.rs", "for (event, pair) in «events.iter()».zip", "events[..events.len().min(16_384)].iter()"),
 ];

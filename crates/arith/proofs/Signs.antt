@@ -1,6 +1,6 @@
 -- Signed numbers: what the machine reads back, sums, products and quotients of two 32-bit numbers fit 64 bits, and tests. Assumes nothing.
 use mathlib.Core.Path.{_≡_, refl, sym, ap, ap₂, _∙_}
-use mathlib.Core.Bool.{Bool, true, false, cond}
+use mathlib.Core.Bool.{Bool, true, false, cond, true≢false}
 use Prim.Native.Nat.{ℕ, zero, suc, _+_, _-_, _*_, _/_, _^_, _≤_, _<_}
 use native.Mathlib.Nat.{le-trans, le-of-lt, lt-of-le-of-lt, div-le-self, mul-le-mul-left, mul-le-mul-right}
 use native.Mathlib.Omega.{arith}
@@ -80,6 +80,12 @@ eqZ-yes (pos a) (pos b) e = eq-eqb a b (cc)
 eqZ-yes (pos a) (negsuc b) e = cc
 eqZ-yes (negsuc a) (pos b) e = cc
 eqZ-yes (negsuc a) (negsuc b) e = eq-eqb a b (cc)
+
+pub eqZ-same : (x y : ℤ) → eqZ x y ≡ true → x ≡ y
+eqZ-same (pos a) (pos b) q = ap pos (eqb-true a b q)
+eqZ-same (pos a) (negsuc b) q = absurd (true≢false (sym q))
+eqZ-same (negsuc a) (pos b) q = absurd (true≢false (sym q))
+eqZ-same (negsuc a) (negsuc b) q = ap negsuc (eqb-true a b q)
 
 pub eqZ-no : (x y : ℤ) → (x ≡ y → ⊥) → eqZ x y ≡ false
 eqZ-no (pos a) (pos b) f = ne-eqb a b (λ e. f (ap pos e))

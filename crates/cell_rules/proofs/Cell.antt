@@ -9,8 +9,9 @@ use lib.Seq.{getD-take, getD-drop}
 use lib.IntN.{ℤ, pos}
 use borrow.Author.Tests.{lt-ltb, le-ltb, ne-eqb}
 use Rattle.network.specs.Cells.{row}
-use Rattle.network.specs.Network.{sensorsAt, heardAt, blockSize, cellSound, heardSound, pendingSound, pendingAt, within}
-use Rattle.cell_rules.specs.Sound.{soundAt, pendingFrom}
+use Rattle.network.specs.Network.{sensorsAt, heardAt, pendingAt, ageAt, blockSize, heardSound, pendingSound, anyPresent, ageSound, cellSound, within}
+use Rattle.network.proofs.Stores.{row-row}
+use Rattle.cell_rules.specs.Sound.{soundAt, pendingFrom, ageFrom}
 
 by-first : (a r i : ℕ) (block : List ℤ) (z f : ℤ) → getD block (pendingAt r) (pos 0) ≡ f → pendingSound a block r i z ≡ pendingFrom a f r i z
 unfolding pendingSound pendingFrom
@@ -40,7 +41,24 @@ module _ (n : List ℤ) (a : ℕ) where
         let x : (j - pendingAt 1) / 16 + 1 ≡ suc b = omega arith in
         let y : (j - pendingAt 1) % 16 ≡ i = omega arith in
         let z : a * blockSize + pendingAt (suc b) ≡ f = omega arith in
-        rw (le-ltb j sensorsAt (omega arith), ne-eqb j sensorsAt (λ s. omega arith), le-ltb j (pendingAt 1) (omega arith), x, y, ← e)
+        rw (le-ltb j sensorsAt (omega arith), ne-eqb j sensorsAt (λ s. omega arith), le-ltb j (pendingAt 1) (omega arith), lt-ltb j (ageAt 1) (omega arith), x, y, ← e)
         (by-first (suc a) (suc b) i (row n (a * blockSize) blockSize) (getD n k (pos 0)) (getD n f (pos 0))
         (getD-take blockSize (drop (a * blockSize) n) (pendingAt (suc b)) (pos 0) (omega arith) ∙ getD-drop (a * blockSize) n (pendingAt (suc b)) (pos 0)
         ∙ ap (λ (c : ℕ). getD n c (pos 0)) z))
+
+  pub age : (j b k f : ℕ) → b < 16 → k ≡ a * blockSize + j → j ≡ ageAt 1 + b → f ≡ a * blockSize + heardAt 1 + b * 16 + 1
+      → soundAt n a j ≡ ageFrom (suc a) (anyPresent (row n f 15)) (suc b) (getD n k (pos 0))
+  unfolding soundAt cellSound ageSound ageFrom
+  age j b k f h e q s =
+      let x : j - ageAt 1 + 1 ≡ suc b = omega arith in
+      let z : a * blockSize + (heardAt (suc b) + 1) ≡ f = omega arith in
+      rw (
+        le-ltb j sensorsAt (omega arith),
+        ne-eqb j sensorsAt (λ s. omega arith),
+        le-ltb j (pendingAt 1) (omega arith),
+        le-ltb j (ageAt 1) (omega arith),
+        x,
+        row-row n (a * blockSize) blockSize (heardAt (suc b) + 1) 15 (omega arith),
+        z,
+        ← e,
+      )

@@ -1,2 +1,3 @@
 mod Tests
 mod Stores
+pub mod Rows

@@ -7,7 +7,7 @@ ghost use lib.IntN.{pos};
 ghost use Rattle.number.specs.Number.{mark, eqZ};
 ghost use Rattle.network.specs.Cells.{row, store};
 ghost use Rattle.network.specs.Network.{noMessage, within, isDistance};
-ghost use Rattle.event.specs.Step.{isDevice, sensorsOf, heardFrom, pendingTo};
+ghost use Rattle.event.specs.Step.{isDevice, sensorsOf, heardFrom, pendingTo, ageOf};
 
 pub fn is_device(a: u8) -> bool
     ensures { λ r. ⌜ r ≡ isDevice a ⌝ }
@@ -27,7 +27,7 @@ pub fn are_devices(a: u8, b: u8) -> bool
     is_device(b)
 }
 
-// The cell of a's sensors, the row that a heard from b, and the row pending from a to b.
+// The cell of a's sensors, the row that a heard from b, the row pending from a to b, and the age of what a heard from b.
 pub fn sensors_of(a: u8) -> usize
     requires { ⌜ 1 ≤ a ⌝ }
     ensures { λ r. ⌜ r ≡ sensorsOf a ⌝ }
@@ -47,6 +47,13 @@ pub fn pending_to(a: u8, b: u8) -> usize
     ensures { λ r. ⌜ r ≡ pendingTo a b ⌝ }
 {
     ((a as usize) - 1) * layout::BLOCK + (layout::PENDING + layout::ROW * ((b as usize) - 1))
+}
+
+pub fn age_of(a: u8, b: u8) -> usize
+    requires { ⌜ (1 ≤ a) × (1 ≤ b) ⌝ }
+    ensures { λ r. ⌜ r ≡ ageOf a b ⌝ }
+{
+    ((a as usize) - 1) * layout::BLOCK + (layout::AGES + ((b as usize) - 1))
 }
 
 pub fn same(x: i32, y: i32) -> bool
@@ -71,7 +78,7 @@ pub fn distance_sound(x: i32) -> bool
     if same(x, layout::MARK) {
         return true;
     }
-    in_range(x, 1000000)
+    in_range(x, layout::FARTHEST)
 }
 
 // The n cells from `at` become those of `from` from `start` on.
@@ -87,7 +94,7 @@ pub fn copy(to: &mut [i32], at: usize, from: &[i32], start: usize, n: usize)
 }
 
 // The n cells from `at` on become absent.
-fn clear(net: &mut [i32], at: usize, n: usize)
+pub fn clear(net: &mut [i32], at: usize, n: usize)
     requires { do ⌜ at + n ≤ (← ⟦net.len()⟧) ⌝ }
     ensures { λ _. ⌜ now (net .exit) ≡ store (now (net .entry)) at (replicate n mark) ⌝ }
 {
@@ -104,5 +111,5 @@ pub fn no_message(net: &mut [i32], at: usize)
     ensures { λ _. ⌜ now (net .exit) ≡ store (now (net .entry)) at noMessage ⌝ }
 {
     net[at] = 0;
-    clear(net, at + 1, layout::ROW - 1);
+    clear(net, at + 1, layout::SLOTS);
 }

@@ -7,7 +7,7 @@ use native.Mathlib.Omega.{arith}
 use lib.Dec.{eqb, leb, ltb}
 use lib.IntN.{ℤ}
 use borrow.Author.Tests.{eq-eqb, ne-eqb, lt-ltb, le-ltb, not-false}
-use Rattle.network.specs.Network.{heardAt, pendingAt, blockSize, networkSize, isDistance}
+use Rattle.network.specs.Network.{heardAt, pendingAt, ageAt, blockSize, networkSize, isDistance}
 use Rattle.event.specs.Event.{Event, fire, deliver, lose, link, signal}
 use Rattle.event.specs.Step.{sensorsOf, isDevice}
 use Rattle.decide.proofs.Picks.{both, neither}
@@ -38,23 +38,25 @@ named (signal a s v) h =
 pub sensors-inside : (a s v : ℕ) → Fits (signal a s v) → sensorsOf a < networkSize
 sensors-inside a s v h = omega (arith, named (signal a s v) h)
 
--- the parts of a device's cells: variables and sensors; the distance from b, the slots heard from b, the message pending to b
+-- the parts of a device's cells: variables and sensors; the distance from b, the slots heard from b, the message pending to b, the age of what was heard from b
 data Part : Type 0 where
   own : Part
   distance : ℕ → Part
   heard : ℕ → Part
   pending : ℕ → Part
+  age : ℕ → Part
 
 abbrev partOf : ℕ → Part
 partOf j =
     cond (ltb j (heardAt 1)) own
     (cond (ltb j (pendingAt 1)) (cond (eqb ((j - heardAt 1) % 16) 0) (distance ((j - heardAt 1) / 16 + 1)) (heard ((j - heardAt 1) / 16 + 1)))
-    (pending ((j - pendingAt 1) / 16 + 1)))
+    (cond (ltb j (ageAt 1)) (pending ((j - pendingAt 1) / 16 + 1)) (age (j - ageAt 1 + 1))))
 
 -- which device's part an event touches; fire touches all of its device
 data Uses : Event → ℕ → Part → Type 0 where
   by-fire : (a : ℕ) (p : Part) → Uses (fire a) a p
   at-hearer : (a b : ℕ) → Uses (deliver a b) b (heard a)
+  at-age : (a b : ℕ) → Uses (deliver a b) b (age a)
   at-sender : (a b : ℕ) → Uses (deliver a b) a (pending b)
   by-loss : (a b : ℕ) → Uses (lose a b) a (pending b)
   by-link : (a b : ℕ) (d : ℤ) → Uses (link a b d) a (distance b)
@@ -75,7 +77,12 @@ module _ (j b : ℕ) (h : Device b) where
   is-pending : pendingAt b ≤ j → j < pendingAt b + 16 → partOf j ≡ pending b
   is-pending k l =
       let y : (j - pendingAt 1) / 16 + 1 ≡ b = omega arith in
-      rw (le-ltb j (heardAt 1) (omega arith), le-ltb j (pendingAt 1) (omega arith), y)
+      rw (le-ltb j (heardAt 1) (omega arith), le-ltb j (pendingAt 1) (omega arith), lt-ltb j (ageAt 1) (omega arith), y)
+
+  is-age : j ≡ ageAt b → partOf j ≡ age b
+  is-age e =
+      let y : j - ageAt 1 + 1 ≡ b = omega arith in
+      rw (le-ltb j (heardAt 1) (omega arith), le-ltb j (pendingAt 1) (omega arith), le-ltb j (ageAt 1) (omega arith), y)
 
 abbrev owner : ℕ → ℕ
 owner x = x / blockSize + 1
@@ -83,7 +90,8 @@ owner x = x / blockSize + 1
 uses : (e : Event) (x : ℕ) → Named e → Reach e x → Uses e (owner x) (partOf (x % blockSize))
 uses (fire a) x h w = let o : owner x ≡ a = omega arith in rw o (by-fire a (partOf (x % blockSize)))
 uses (deliver a b) x h (inl w) = let o : owner x ≡ b = omega arith in rw (o, is-heard (x % blockSize) a (h .0) (omega arith) (omega arith)) (at-hearer a b)
-uses (deliver a b) x h (inr w) = let o : owner x ≡ a = omega arith in rw (o, is-pending (x % blockSize) b (h .1) (omega arith) (omega arith)) (at-sender a b)
+uses (deliver a b) x h (inr (inl w)) = let o : owner x ≡ b = omega arith in rw (o, is-age (x % blockSize) a (h .0) (omega arith)) (at-age a b)
+uses (deliver a b) x h (inr (inr w)) = let o : owner x ≡ a = omega arith in rw (o, is-pending (x % blockSize) b (h .1) (omega arith) (omega arith)) (at-sender a b)
 uses (lose a b) x h w = let o : owner x ≡ a = omega arith in rw (o, is-pending (x % blockSize) b (h .1) (omega arith) (omega arith)) (by-loss a b)
 uses (link a b d) x h w = let o : owner x ≡ a = omega arith in rw (o, is-distance (x % blockSize) b (h .1) (omega arith)) (by-link a b d)
 uses (signal a s v) x h w = let o : owner x ≡ a = omega arith in rw (o, lt-ltb (x % blockSize) (heardAt 1) (omega arith)) (by-signal a s v)
@@ -92,6 +100,7 @@ uses (signal a s v) x h w = let o : owner x ≡ a = omega arith in rw (o, lt-ltb
 concerned : {f : Event} {a : ℕ} {p : Part} → Uses f a p → concerns a f ≡ true
 concerned (by-fire a p) = eq-eqb a a refl
 concerned (at-hearer a b) = rw (eq-eqb b b refl) (or-true (eqb b a))
+concerned (at-age a b) = rw (eq-eqb b b refl) (or-true (eqb b a))
 concerned (at-sender a b) = rw (eq-eqb a a refl)
 concerned (by-loss a b) = eq-eqb a a refl
 concerned (by-link a b d) = eq-eqb a a refl
@@ -120,6 +129,8 @@ shared : {e f : Event} {a : ℕ} {p : Part} → clash e f ≡ false → Uses e a
 shared {e} {f} q (by-fire a p) v = fire-too v (neither (clashesWith e f) (clashesWith f e) q .0)
 shared q (at-hearer a b) (by-fire c p) = fire-too (at-hearer a b) q
 shared q (at-hearer a b) (at-hearer c d) = one-pair a b q
+shared q (at-age a b) (by-fire c p) = fire-too (at-age a b) q
+shared q (at-age a b) (at-age c d) = one-pair a b q
 shared q (at-sender a b) (by-fire c p) = fire-too (at-sender a b) q
 shared q (at-sender a b) (at-sender c d) = one-pair a b q
 shared q (at-sender a b) (by-loss c d) = one-pair a b q

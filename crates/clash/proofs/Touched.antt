@@ -15,7 +15,7 @@ use Rattle.program.specs.Tree.{Expr}
 use Rattle.network.specs.Cells.{write}
 use Rattle.network.specs.Network.{blockSize, networkSize, base}
 use Rattle.event.specs.Event.{Event, fire, deliver, lose, link, signal}
-use Rattle.event.specs.Step.{Plan, sensorsOf, heardFrom, pendingTo, block, outOfRange, toItself, nothingPending, refusal, effect, plan, doEvent}
+use Rattle.event.specs.Step.{Plan, sensorsOf, heardFrom, pendingTo, ageOf, block, outOfRange, toItself, nothingPending, refusal, effect, plan, doEvent}
 use Rattle.round.proofs.After.{fired-length}
 use Rattle.clash.proofs.Flat.{Within, Outside, length-write, write-out, write-agree, row-agree, length-row}
 
@@ -25,7 +25,7 @@ Fits e = outOfRange e ≡ false
 -- the cells that an event in range reads or sets, where it is not refused
 abbrev pub Reach : Event → ℕ → Type 0
 Reach (fire a) c = Within (base a) blockSize c
-Reach (deliver a b) c = Within (heardFrom b a + 1) 15 c ⊎ Within (pendingTo a b) 16 c
+Reach (deliver a b) c = Within (heardFrom b a + 1) 15 c ⊎ (Within (ageOf b a) 1 c ⊎ Within (pendingTo a b) 16 c)
 Reach (lose a b) c = Within (pendingTo a b) 16 c
 Reach (link a b d) c = Within (heardFrom a b) 1 c
 Reach (signal a s v) c = Within (sensorsOf a) 1 c
@@ -50,7 +50,7 @@ either? (no a) (no b) = no (λ t. elim t [ inl x ↦ a x | inr y ↦ b y ])
 
 reach? : (e : Event) (c : ℕ) → Dec (Reach e c)
 reach? (fire a) c = within? (base a) blockSize c
-reach? (deliver a b) c = either? (within? (heardFrom b a + 1) 15 c) (within? (pendingTo a b) 16 c)
+reach? (deliver a b) c = either? (within? (heardFrom b a + 1) 15 c) (either? (within? (ageOf b a) 1 c) (within? (pendingTo a b) 16 c))
 reach? (lose a b) c = within? (pendingTo a b) 16 c
 reach? (link a b d) c = within? (heardFrom a b) 1 c
 reach? (signal a s v) c = within? (sensorsOf a) 1 c
@@ -61,7 +61,7 @@ touched? e c = Dec·and (fits? e) (reach? e c)
 -- of an event that is not refused: where it stores, and what it reads
 effect-frame : (main : Expr) (n : List ℤ) (e : Event) (c : ℕ) → ¬ Reach e c → Outside c (effect main n e .0)
 effect-frame main n (fire a) c h = (λ w. h (omega (arith, fired-length main (block n a), length-row n (base a) blockSize)), tt)
-effect-frame main n (deliver a b) c h = (λ w. h (inl (omega (arith, length-row n (pendingTo a b + 1) 15))), (λ w. h (inr w), tt))
+effect-frame main n (deliver a b) c h = (λ w. h (inl (omega (arith, length-row n (pendingTo a b + 1) 15))), (λ w. h (inr (inl w)), (λ w. h (inr (inr w)), tt)))
 effect-frame main n (lose a b) c h = (h, tt)
 effect-frame main n (link a b d) c h = (h, tt)
 effect-frame main n (signal a s v) c h = (h, tt)
@@ -70,7 +70,7 @@ effect-local : (main : Expr) (n m : List ℤ) (e : Event) → length n ≡ lengt
     → (nothingPending n e ≡ nothingPending m e) × (effect main n e ≡ effect main m e)
 effect-local main n m (fire a) q h = (refl, rw (row-agree n m (base a) blockSize (pos 0) q h))
 effect-local main n m (deliver a b) q h =
-    (rw (h (pendingTo a b) (inr (omega arith))), rw (row-agree n m (pendingTo a b + 1) 15 (pos 0) q (λ c w. h c (inr (omega arith)))))
+    (rw (h (pendingTo a b) (inr (inr (omega arith)))), rw (row-agree n m (pendingTo a b + 1) 15 (pos 0) q (λ c w. h c (inr (inr (omega arith))))))
 effect-local main n m (lose a b) q h = (rw (h (pendingTo a b) (omega arith)), refl)
 effect-local main n m (link a b d) q h = (refl, refl)
 effect-local main n m (signal a s v) q h = (refl, rw (h (sensorsOf a) (omega arith)))

@@ -1,31 +1,31 @@
 -- What `fire` asks of the rows of messages: a sound network has it, and every event keeps it. Assumes nothing.
 use mathlib.Core.Path.{_≡_, refl, sym, ap, _∙_}
-use mathlib.Core.Bool.{Bool, true, false, cond, _&&_, or-true, or-false, true≢false}
-use mathlib.Core.List.{List, [], _∷_}
+use mathlib.Core.Bool.{Bool, true, false, cond, _&&_, or-true, or-false}
+use mathlib.Core.List.{List, [], _∷_, map}
 use Prim.Native.Nat.{ℕ, zero, suc, _+_, _-_, _*_, _/_, _%_, _≤_, _<_}
 use native.Mathlib.Decide.{ℕ-discrete}
 use native.Mathlib.Omega.{arith}
 use lib.Dec.{eqb}
 use lib.ListN.{length, getD, drop, length-take, length-drop, getD-replicate}
 use lib.Seq.{ext-getD, getD-take, getD-drop}
-use lib.IntN.{ℤ, pos, negsuc}
-use borrow.Author.Tests.{not-false, eqb-true, ne-eqb, le-ltb}
+use lib.IntN.{ℤ, pos}
+use borrow.Author.Tests.{not-false, eqb-true, ne-eqb, lt-ltb, le-ltb}
 use Rattle.number.specs.Number.{mark, eqZ}
 use Rattle.field.specs.Field.{devices, each}
 use Rattle.program.specs.Tree.{Expr}
 use Rattle.network.specs.Cells.{row, store, write}
-use Rattle.network.specs.Network.{sensorsAt, heardAt, pendingAt, blockSize, networkSize, base, noMessage, isDistance, pendingSound, cellSound, soundness}
+use Rattle.network.specs.Network.{sensorsAt, heardAt, pendingAt, ageAt, blockSize, networkSize, base, noMessage, isDistance, pendingSound, cellSound, soundness}
 use Rattle.network.proofs.Stores.{length-store}
-use Rattle.round.specs.Round.{State, message, joined, after, fired}
+use Rattle.round.specs.Round.{State, message, joined, older, ages, faded, after, fired}
 use Rattle.round.proofs.After.{fired-length}
 use Rattle.event.specs.Event.{Event, fire, deliver, lose, link, signal}
-use Rattle.event.specs.Step.{sensorsOf, heardFrom, pendingTo, block, isDevice, outOfRange, refusal, effect, plan, doEvent}
+use Rattle.event.specs.Step.{sensorsOf, heardFrom, pendingTo, ageOf, block, isDevice, outOfRange, refusal, effect, plan, doEvent}
 use Rattle.event.proofs.Devices.{Device, device, pair-of}
 use Rattle.decide.proofs.Picks.{both}
-use Rattle.arith.proofs.Signs.{eqZ-yes}
+use Rattle.arith.proofs.Signs.{eqZ-yes, eqZ-same}
 use Rattle.effects.specs.Does.{IdleRow, Idle}
 use Rattle.effects.proofs.Refusals.{in-range}
-use Rattle.effects.proofs.Rows.{row-length, store-row, row-first, row-out, row-in, joined-length, joined-row}
+use Rattle.cells.proofs.Rows.{row-length, store-row, row-first, row-out, row-in, joined-length, joined-row}
 use Rattle.effects.proofs.Variables.{fired-has}
 use Rattle.effects.proofs.Lit.{cell-sound, sound-length}
 
@@ -59,6 +59,10 @@ one-row a b c d z x y i j p q r s =
 no-row : (a c d z : ℕ) → d < devices → pendingTo (1 + c) (1 + d) ≤ z → z < pendingTo (1 + c) (1 + d) + 16 → base a ≤ z → z < base a + pendingAt 1 → ⊥
 no-row a c d z j p q r s = let e : a - 1 ≡ c = omega arith in omega arith
 
+-- nor one of its ages
+no-age : (a b c d z : ℕ) → Device b → d < devices → pendingTo (1 + c) (1 + d) ≤ z → z < pendingTo (1 + c) (1 + d) + 16 → z ≡ ageOf a b → ⊥
+no-age a b c d z x j p q e = let f : a - 1 ≡ c = omega arith in omega arith
+
 -- a row apart from what is stored
 pub idle-out : (m : List ℤ) (lo : ℕ) (vs : List ℤ) (p : ℕ) → ((c : ℕ) → p ≤ c → c < p + 16 → lo ≤ c → c < lo + length vs → ⊥) → IdleRow (row m p 16) → IdleRow (row (store m lo vs) p 16)
 idle-out m lo vs p f g = rw (row-out m lo vs p 16 (pos 0) f) g
@@ -83,10 +87,11 @@ module _ (main : Expr) (n : List ℤ) (w : length n ≡ networkSize) (h : Idle n
       let b = block n a in
       let k : length b ≡ blockSize = row-length n (base a) blockSize (omega arith) in
       let u : List ℤ = joined (each (message b s)) in
-      let e : length u ≡ 16 * 16 = joined-length (message b s) 16 1 16 (λ i. message-length b s i t) in
+      let m : List ℤ = store (store (store b (heardAt 1) (joined (each (faded b)))) (ageAt 1) (map older (ages b))) 0 (s .variables) in
+      let e : length u ≡ 16 * 16 = joined-length (message b s) 16 1 16 (λ i _. message-length b s (1 + i) t) in
       rw (
-        row-in n (base a) (store (store b 0 (s .variables)) (pendingAt 1) u) (pendingAt 1 + 16 * d) 16 (pos 0) (simp length-store (omega arith)) (simp length-store (omega arith)),
-        row-in (store b 0 (s .variables)) (pendingAt 1) u (16 * d) 16 (pos 0) (omega arith) (simp length-store (omega arith)),
+        row-in n (base a) (store m (pendingAt 1) u) (pendingAt 1 + 16 * d) 16 (pos 0) (simp length-store (omega arith)) (simp length-store (omega arith)),
+        row-in m (pendingAt 1) u (16 * d) 16 (pos 0) (omega arith) (simp length-store (omega arith)),
         joined-row (message b s) 16 1 16 d (λ i. message-length b s i t) j,
       )
       (idle-message b s (1 + d))
@@ -109,8 +114,10 @@ module _ (main : Expr) (n : List ℤ) (w : length n ≡ networkSize) (h : Idle n
   effect-idle (deliver a b) o c d i j =
       let x = pair-of a b (not-false _ o) in
       let k : length (row n (pendingTo a b + 1) 15) ≤ 15 = omega (arith, length-take 15 (drop (pendingTo a b + 1) n)) in
-      idle-none (store n (heardFrom b a + 1) (row n (pendingTo a b + 1) 15)) a b c d (simp length-store w) (x .0) (x .1) i j
-      (idle-out n (heardFrom b a + 1) (row n (pendingTo a b + 1) 15) (pendingTo (1 + c) (1 + d)) (λ z p q r s. no-row b c d z j p q (omega arith) (omega arith)) (h c d i j))
+      let m : List ℤ = store n (heardFrom b a + 1) (row n (pendingTo a b + 1) 15) in
+      idle-none (store m (ageOf b a) (pos 0 ∷ [])) a b c d (simp length-store w) (x .0) (x .1) i j
+      (idle-out m (ageOf b a) (pos 0 ∷ []) (pendingTo (1 + c) (1 + d)) (λ z p q r s. no-age b a c d z (x .0) j p q (omega arith))
+      (idle-out n (heardFrom b a + 1) (row n (pendingTo a b + 1) 15) (pendingTo (1 + c) (1 + d)) (λ z p q r s. no-row b c d z j p q (omega arith) (omega arith)) (h c d i j)))
   effect-idle (lose a b) o c d i j = let x = pair-of a b (not-false _ o) in idle-none n a b c d w (x .0) (x .1) i j (h c d i j)
   effect-idle (link a b v) o c d i j =
       let x = pair-of a b (both (isDevice a && isDevice b) (isDistance v) (not-false _ o) .0) in
@@ -126,12 +133,6 @@ idle-kept main n e l h = go (eqb (refusal n e) 0) refl
     go false q = rw q h
 
 -- ---- a sound network has it
-equal : (x y : ℤ) → eqZ x y ≡ true → x ≡ y
-equal (pos a) (pos b) q = ap pos (eqb-true a b q)
-equal (pos a) (negsuc b) q = absurd (true≢false (sym q))
-equal (negsuc a) (pos b) q = absurd (true≢false (sym q))
-equal (negsuc a) (negsuc b) q = ap negsuc (eqb-true a b q)
-
 slot-mark : (a : ℕ) (l : List ℤ) (b i : ℕ) (z : ℤ) → b < devices → 1 ≤ i → i < 16 → getD l (pendingAt (1 + b)) (pos 0) ≡ pos 0 → cellSound a l (pendingAt (1 + b) + i) z ≡ true → z ≡ mark
 unfolding cellSound pendingSound
 slot-mark a l b i z h p k e q =
@@ -142,8 +143,9 @@ slot-mark a l b i z h p k e q =
     let above = le-ltb j sensorsAt (omega arith) in
     let other = ne-eqb j sensorsAt (λ v. omega arith) in
     let pending = le-ltb j (pendingAt 1) (omega arith) in
-    let t = rw (above, other, pending, r, s, ne-eqb i 0 (λ v. omega arith), none, or-true (eqb (1 + b) a)) at q in
-    equal z mark (sym (or-false (eqZ z mark)) ∙ t)
+    let before = lt-ltb j (ageAt 1) (omega arith) in
+    let t = rw (above, other, pending, before, r, s, ne-eqb i 0 (λ v. omega arith), none, or-true (eqb (1 + b) a)) at q in
+    eqZ-same z mark (sym (or-false (eqZ z mark)) ∙ t)
 
 pub idle-sound : (n : List ℤ) → soundness n ≡ (0, 0) → Idle n
 idle-sound n q a b i j m =

@@ -2,7 +2,6 @@
 mod Stores
 pub mod Refusals
 pub mod Digit
-pub mod Rows
 pub mod Variables
 pub mod Lit
 pub mod Idle

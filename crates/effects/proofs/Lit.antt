@@ -11,7 +11,7 @@ use Rattle.program.specs.Tree.{Expr}
 use Rattle.network.specs.Cells.{row, store, write}
 use Rattle.network.specs.Network.{sensorsAt, blockSize, networkSize, base, noMessage, isDistance, cellSound, firstNot, placed, lowestUnsound, unsoundAt, soundness}
 use Rattle.event.specs.Event.{Event, fire, deliver, lose, link, signal}
-use Rattle.event.specs.Step.{sensorsOf, heardFrom, pendingTo, block, isDevice, outOfRange, digitSet, refusal, effect, plan, doEvent}
+use Rattle.event.specs.Step.{sensorsOf, heardFrom, pendingTo, ageOf, block, isDevice, outOfRange, digitSet, refusal, effect, plan, doEvent}
 use lib.Dec.{eqb, ltb}
 use lib.Signed.{leZ}
 use borrow.Author.Tests.{not-false, le-leb, eqb-true, ltb-true, ltb-false}
@@ -46,11 +46,14 @@ effect-lit main n (fire a) o l h c =
     rw (e, fired-sensors main (block n a), getD-take blockSize (drop (base a) n) sensorsAt (pos 0) (omega arith), getD-drop (base a) n sensorsAt (pos 0), f) (h c))
 effect-lit main n (deliver a b) o l h c =
     let d = pair-of a b (not-false _ o) in
-    store-has NotBelow (store n (heardFrom b a + 1) (row n (pendingTo a b + 1) 15)) (pendingTo a b) noMessage (sensorsOf c) (pos 0)
+    let m : List ℤ = store n (heardFrom b a + 1) (row n (pendingTo a b + 1) 15) in
+    store-has NotBelow (store m (ageOf b a) (pos 0 ∷ [])) (pendingTo a b) noMessage (sensorsOf c) (pos 0)
+    (store-has NotBelow m (ageOf b a) (pos 0 ∷ []) (sensorsOf c) (pos 0)
     (store-has NotBelow n (heardFrom b a + 1) (row n (pendingTo a b + 1) 15) (sensorsOf c) (pos 0) (h c)
     (λ p q.
     let k : length (row n (pendingTo a b + 1) 15) ≤ 15 = omega (arith, length-take 15 (drop (pendingTo a b + 1) n)) in
     absurd (omega (arith, met c b (omega arith) (omega arith)))))
+    (λ p q. absurd (omega (arith, met c b (omega arith) (omega arith)))))
     (λ p q. absurd (omega (arith, met c a (omega arith) (omega arith))))
 effect-lit main n (lose a b) o l h c =
     let d = pair-of a b (not-false _ o) in

@@ -1,7 +1,7 @@
 -- What a round leaves: as many variables and slots sent as it began with, so it keeps its block's sensors' cell. Assumes nothing.
 use mathlib.Core.Path.{_≡_, refl, _∙_}
 use mathlib.Core.Bool.{Bool, true, false, cond}
-use mathlib.Core.List.{List, [], _∷_}
+use mathlib.Core.List.{List, [], _∷_, map}
 use mathlib.Core.Option.{none, some}
 use Prim.Native.Nat.{ℕ, _≤_}
 use lib.ListN.{length, getD, take, length-set, length-take, length-replicate}
@@ -11,9 +11,9 @@ use Rattle.field.specs.Field.{Field, each, everywhere, faultsIn}
 use Rattle.program.specs.Tree.{Expr, nothing, constant, parameter, variable, operator, sense, rep, branch, mux, nbr, range, foldOp, foldDef, call}
 use Rattle.network.specs.Cells.{store}
 use native.Mathlib.Omega.{arith}
-use Rattle.network.specs.Network.{sensorsAt, pendingAt}
+use Rattle.network.specs.Network.{sensorsAt, heardAt, pendingAt, ageAt}
 use Rattle.network.proofs.Stores.{store-out}
-use Rattle.round.specs.Round.{message, joined, isTrue, arguments, numberOf, fieldOf, round, after, fired, firedBy, State, Value, number, field, Outcome, done, fault}
+use Rattle.round.specs.Round.{message, joined, isTrue, arguments, numberOf, fieldOf, round, older, ages, faded, after, fired, firedBy, State, Value, number, field, Outcome, done, fault}
 use Rattle.round.specs.Round.{thenValue, onNumbers, onFields, operated, folded, stored, sending, erased, reps, eval}
 
 module _ (m : ℕ) where
@@ -107,7 +107,7 @@ module _ (m : ℕ) where
       (λ r v i. then-kept (eval b w args v) (eval-kept b w args v i)
       (λ f a j. eval-kept b d (arguments (numberOf p) (numberOf q) (numberOf r) (numberOf f)) a j))))
 
--- ---- the device's cells after its round: as they were, or with its variables and its messages stored
+-- ---- the device's cells after its round: as they were, or a round older and with its variables and its messages stored
 round-kept : (main : Expr) (b : List ℤ) → Kept (length (take 16 b)) (round main b)
 unfolding round
 round-kept main b = eval-kept (length (take 16 b)) _ main _ _ (refl, length-replicate 16 mark)
@@ -124,4 +124,10 @@ pub fired-sensors : (main : Expr) (b : List ℤ) → getD (fired main b .0) sens
 unfolding after
 fired-sensors main b =
     fired-has (λ c. getD c sensorsAt (pos 0) ≡ getD b sensorsAt (pos 0)) main b refl
-    (λ s h k. store-out (store b 0 (s .variables)) (pendingAt 1) (joined (each (message b s))) 16 (pos 0) (λ p q. omega arith) ∙ store-out b 0 (s .variables) sensorsAt (pos 0) (λ p q. omega arith))
+    (λ s h k.
+    let heard : List ℤ = store b (heardAt 1) (joined (each (faded b))) in
+    let aged : List ℤ = store heard (ageAt 1) (map older (ages b)) in
+    store-out (store aged 0 (s .variables)) (pendingAt 1) (joined (each (message b s))) sensorsAt (pos 0) (λ p q. omega arith)
+    ∙ store-out aged 0 (s .variables) sensorsAt (pos 0) (λ p q. omega arith)
+    ∙ store-out heard (ageAt 1) (map older (ages b)) sensorsAt (pos 0) (λ p q. omega arith)
+    ∙ store-out b (heardAt 1) (joined (each (faded b))) sensorsAt (pos 0) (λ p q. omega arith))

@@ -38,9 +38,9 @@ fn copy_row(net: &mut [i32], from: usize, to: usize)
     requires { do ⌜ (from + 15 ≤ (← ⟦net.len()⟧)) × (to + 15 ≤ (← ⟦net.len()⟧)) ⌝ }
     ensures { λ _. ⌜ now (net .exit) ≡ store (now (net .entry)) to (row (now (net .entry)) from 15) ⌝ }
 {
-    let mut slots = [layout::MARK; 15];
-    cells::copy(&mut slots, 0, &*net, from, 15);
-    cells::copy(net, to, &slots, 0, 15);
+    let mut slots = [layout::MARK; layout::SLOTS];
+    cells::copy(&mut slots, 0, &*net, from, layout::SLOTS);
+    cells::copy(net, to, &slots, 0, layout::SLOTS);
 }
 
 // The refusal of a delivery or a loss, 0 where there is none.
@@ -61,7 +61,7 @@ fn message_refusal(net: &[i32], a: u8, b: u8) -> i32
     0
 }
 
-// b's heard slots 1 to 15 from a become the message's, slot 0 stays, and the pending message goes.
+// b's heard slots 1 to 15 from a become the message's, slot 0 stays, their age is 0, and the pending message goes.
 pub fn deliver(net: &mut [i32], a: u8, b: u8) -> Answer
     requires { do ⌜ (← ⟦net.len()⟧) ≡ networkSize ⌝ }
     ensures { λ r. ⌜ Does (now (net .entry)) (deliver a b) r (now (net .exit)) ⌝ }
@@ -73,6 +73,7 @@ pub fn deliver(net: &mut [i32], a: u8, b: u8) -> Answer
     let at = cells::pending_to(a, b);
     let heard = cells::heard_from(b, a);
     copy_row(net, at + 1, heard + 1);
+    net[cells::age_of(b, a)] = 0;
     cells::no_message(net, at);
     answered(0)
 }

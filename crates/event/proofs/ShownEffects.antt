@@ -7,17 +7,18 @@ use lib.IntN.{ℤ, pos}
 use Rattle.number.specs.Number.{mark, add, div}
 use Rattle.program.specs.Tree.{Expr, constant, variable, operator, sense, rep, nbr, foldOp}
 use Rattle.network.specs.Cells.{row, store, write}
-use Rattle.network.specs.Network.{sensorsAt, heardAt, pendingAt, blockSize, base, copies, freshBlock, fresh}
+use Rattle.network.specs.Network.{sensorsAt, heardAt, pendingAt, ageAt, blockSize, base, copies, freshBlock, fresh}
 use Rattle.round.specs.Round.{fired}
 use Rattle.event.specs.Event.{fire, deliver, lose, link, signal}
-use Rattle.event.specs.Step.{Answer, digitSet, sensorsOf, heardFrom, pendingTo, plan, doEvent}
+use Rattle.event.specs.Step.{Answer, digitSet, sensorsOf, heardFrom, pendingTo, ageOf, plan, doEvent}
 use Rattle.event.proofs.ShownOpened.{doing, neg}
 
 -- "Device a owns .. cells from (a - 1) × ..": the cells that an event names stand in a's block, at b's place (the numbers themselves: network/ShownFresh)
 places : (sensorsOf 1 ≡ sensorsAt) × (sensorsOf 2 ≡ blockSize + sensorsAt) × (sensorsOf 16 ≡ 15 * blockSize + sensorsAt)
     × (heardFrom 1 1 ≡ heardAt 1) × (heardFrom 1 2 ≡ heardAt 2) × (heardFrom 2 1 ≡ blockSize + heardAt 1) × (heardFrom 16 15 ≡ 15 * blockSize + heardAt 15)
     × (pendingTo 1 1 ≡ pendingAt 1) × (pendingTo 1 2 ≡ pendingAt 2) × (pendingTo 2 1 ≡ blockSize + pendingAt 1) × (pendingTo 16 15 ≡ 15 * blockSize + pendingAt 15)
-places = (refl, refl, refl, refl, refl, refl, refl, refl, refl, refl, refl)
+    × (ageOf 1 1 ≡ ageAt 1) × (ageOf 1 2 ≡ ageAt 2) × (ageOf 2 1 ≡ blockSize + ageAt 1) × (ageOf 16 15 ≡ 15 * blockSize + ageAt 15)
+places = (refl, refl, refl, refl, refl, refl, refl, refl, refl, refl, refl, refl, refl, refl, refl)
 
 -- An event that is not refused answers "0 and the value (0 unless fire)"
 abbrev silent : Answer
@@ -42,7 +43,7 @@ digits-set : (map (λ s. digitSet s 1 5) (0 ∷ 1 ∷ 2 ∷ 3 ∷ 15 ∷ []) ≡
 unfolding doing
 digits-set = (refl, refl, refl, refl, refl, refl)
 
--- The cells of the devices 1 to 3. 1: sensors 0 and 2 lit. 2: sensors 1, 11 and 15 lit, a link to 1 of distance 30, the slots 1, 2 and 15 heard from it.
+-- The cells of the devices 1 to 3. 1: sensors 0 and 2 lit. 2: sensors 1, 11 and 15 lit, a link to 1 of distance 30, the slots 1, 2 and 15 heard from it and read once.
 -- Pending: from 1 to 2 the slots 2 and 15; from 2 to 1 slot 1; from 1 to 3 a message without a slot
 abbrev network : List ℤ
 network =
@@ -53,6 +54,7 @@ network =
     ∷ (pendingTo 1 2, pos 1 ∷ mark ∷ pos 8 ∷ replicate 12 mark ++ neg 4 ∷ [])
     ∷ (pendingTo 2 1, pos 1 ∷ pos 3 ∷ [])
     ∷ (pendingTo 1 3, pos 1 ∷ [])
+    ∷ (ageOf 2 1, pos 1 ∷ [])
     ∷ [])
 
 -- "0x14 signal a, sensor, 0 or 1": a's cell of sensors, the other sensors kept
@@ -65,27 +67,28 @@ signals : (main : Expr) → (doEvent main network (signal 1 3 1) ≡ (store netw
 unfolding doing
 signals main = (refl, refl, refl, refl, refl, refl)
 
--- "0x11 deliver a, b: b's heard slots 1–15 from a become the message's, absent ones too; the pending message goes. (.. slot 0 .. stays.)"
-receipt : (main : Expr) → plan main network (deliver 1 2) ≡ ((heardFrom 2 1 + 1, mark ∷ pos 8 ∷ replicate 12 mark ++ neg 4 ∷ []) ∷ (pendingTo 1 2, pos 0 ∷ replicate 15 mark) ∷ [], silent)
+-- "0x11 deliver a, b: b's heard slots 1–15 from a become the message's, absent ones too; the pending message goes. (.. slot 0 .. stays.)"; L1: "Delivery sets the age to 0."
+receipt : (main : Expr) → plan main network (deliver 1 2) ≡ ((heardFrom 2 1 + 1, mark ∷ pos 8 ∷ replicate 12 mark ++ neg 4 ∷ []) ∷ (ageOf 2 1, pos 0 ∷ []) ∷ (pendingTo 1 2, pos 0 ∷ replicate 15 mark) ∷ [], silent)
 unfolding doing
 receipt main = refl
 
 receipt-done : (main : Expr) → doEvent main network (deliver 1 2)
-    ≡ (write network ((heardFrom 2 1, pos 30 ∷ mark ∷ pos 8 ∷ replicate 12 mark ++ neg 4 ∷ []) ∷ (pendingTo 1 2, pos 0 ∷ replicate 15 mark) ∷ []), silent)
+    ≡ (write network ((heardFrom 2 1, pos 30 ∷ mark ∷ pos 8 ∷ replicate 12 mark ++ neg 4 ∷ []) ∷ (pendingTo 1 2, pos 0 ∷ replicate 15 mark) ∷ (ageOf 2 1, pos 0 ∷ []) ∷ []), silent)
 unfolding doing
 receipt-done main = refl
 
 -- also where the hearer has no link; also a message without a slot
-receipts : (main : Expr) → (doEvent main network (deliver 2 1) ≡ (write network ((heardFrom 1 2, mark ∷ pos 3 ∷ replicate 14 mark) ∷ (pendingTo 2 1, pos 0 ∷ replicate 15 mark) ∷ []), silent))
-    × (doEvent main network (deliver 1 3) ≡ (write network ((pendingTo 1 3, pos 0 ∷ replicate 15 mark) ∷ []), silent))
+receipts : (main : Expr) → (doEvent main network (deliver 2 1)
+    ≡ (write network ((heardFrom 1 2, mark ∷ pos 3 ∷ replicate 14 mark) ∷ (pendingTo 2 1, pos 0 ∷ replicate 15 mark) ∷ (ageOf 1 2, pos 0 ∷ []) ∷ []), silent))
+    × (doEvent main network (deliver 1 3) ≡ (write network ((pendingTo 1 3, pos 0 ∷ replicate 15 mark) ∷ (ageOf 3 1, pos 0 ∷ []) ∷ []), silent))
 unfolding doing
 receipts main = (refl, refl)
 
--- a message without a slot takes with it what was heard: device 1 has heard 7 from device 3
+-- a message without a slot takes with it what was heard, and has an age: device 1 has heard 7 from device 3
 abbrev heard-before : List ℤ
-heard-before = write (copies 3 freshBlock) ((heardFrom 1 3, pos 30 ∷ pos 7 ∷ []) ∷ (pendingTo 3 1, pos 1 ∷ []) ∷ [])
+heard-before = write (copies 3 freshBlock) ((heardFrom 1 3, pos 30 ∷ pos 7 ∷ []) ∷ (pendingTo 3 1, pos 1 ∷ []) ∷ (ageOf 1 3, pos 2 ∷ []) ∷ [])
 
-empty-received : (main : Expr) → doEvent main heard-before (deliver 3 1) ≡ (write (copies 3 freshBlock) ((heardFrom 1 3, pos 30 ∷ []) ∷ []), silent)
+empty-received : (main : Expr) → doEvent main heard-before (deliver 3 1) ≡ (write (copies 3 freshBlock) ((heardFrom 1 3, pos 30 ∷ []) ∷ (ageOf 1 3, pos 0 ∷ []) ∷ []), silent)
 unfolding doing
 empty-received main = refl
 
@@ -99,7 +102,8 @@ losses main = (refl, refl)
 abbrev last : List ℤ
 last = write fresh ((pendingTo 16 15, pos 1 ∷ pos 2 ∷ []) ∷ [])
 
-last-devices : (main : Expr) → (plan main last (deliver 16 15) ≡ ((heardFrom 15 16 + 1, pos 2 ∷ replicate 14 mark) ∷ (pendingTo 16 15, pos 0 ∷ replicate 15 mark) ∷ [], silent))
+last-devices : (main : Expr) → (plan main last (deliver 16 15)
+    ≡ ((heardFrom 15 16 + 1, pos 2 ∷ replicate 14 mark) ∷ (ageOf 15 16, pos 0 ∷ []) ∷ (pendingTo 16 15, pos 0 ∷ replicate 15 mark) ∷ [], silent))
     × (plan main last (lose 16 15) ≡ ((pendingTo 16 15, pos 0 ∷ replicate 15 mark) ∷ [], silent))
     × (plan main last (signal 16 15 1) ≡ ((sensorsOf 16, pos 32768 ∷ []) ∷ [], silent))
 unfolding doing
@@ -112,11 +116,12 @@ fires : (main : Expr) (n : List ℤ) → (plan main n (fire 1) ≡ ((base 1, fir
 unfolding doing
 fires main n = (refl, refl, refl)
 
--- its value, sensor 1 plus the 6 heard in slot 2; its message to device 1, to which it has a link, in place of the one that was pending: 5, kept in variable 3, in slot 2
+-- its value, sensor 1 plus the 6 heard in slot 2, which is then one round older; its message to device 1, to which it has a link, in place of the one that was pending: 5, kept in variable 3, in slot 2
 abbrev sends : Expr
 sends = operator 9 add (sense (constant (pos 1))) (foldOp 8 add (constant (pos 0)) (nbr 2 (rep 3 (constant (pos 5)) (variable 4 3))))
 
-fire-done : doEvent sends network (fire 2) ≡ (write network ((base 2 + 3, pos 5 ∷ []) ∷ (pendingTo 2 1, pos 1 ∷ mark ∷ pos 5 ∷ replicate 13 mark) ∷ []), (pos 0, pos 7))
+fire-done : doEvent sends network (fire 2)
+    ≡ (write network ((base 2 + 3, pos 5 ∷ []) ∷ (pendingTo 2 1, pos 1 ∷ mark ∷ pos 5 ∷ replicate 13 mark) ∷ (ageOf 2 1, pos 2 ∷ []) ∷ []), (pos 0, pos 7))
 unfolding doing
 fire-done = refl
 

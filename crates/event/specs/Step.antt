@@ -10,7 +10,7 @@ use Rattle.field.specs.Field.{devices}
 use Rattle.program.specs.Table.{firstOf}
 use Rattle.program.specs.Tree.{Expr}
 use Rattle.network.specs.Cells.{row, write}
-use Rattle.network.specs.Network.{blockSize, base, sensorsAt, heardAt, pendingAt, noMessage, isDistance}
+use Rattle.network.specs.Network.{blockSize, base, sensorsAt, heardAt, pendingAt, ageAt, noMessage, isDistance}
 use Rattle.round.specs.Round.{fired}
 use Rattle.event.specs.Event.{Event, fire, deliver, lose, link, signal, Entry, eventOf}
 
@@ -18,7 +18,7 @@ use Rattle.event.specs.Event.{Event, fire, deliver, lose, link, signal, 
 abbrev pub Answer : Type 0
 Answer = ℤ × ℤ
 
--- the cells of device a: its sensors, the row heard from b, the row pending to b
+-- the cells of device a: its sensors, the row heard from b, the row pending to b, the age of what it heard from b
 abbrev pub sensorsOf : ℕ → ℕ
 sensorsOf a = base a + sensorsAt
 
@@ -27,6 +27,9 @@ heardFrom a b = base a + heardAt b
 
 abbrev pub pendingTo : ℕ → ℕ → ℕ
 pendingTo a b = base a + pendingAt b
+
+abbrev pub ageOf : ℕ → ℕ → ℕ
+ageOf a b = base a + ageAt b
 
 -- x with its binary digit s made v, where v is 0 or 1
 unfoldable pub digitSet : ℕ → ℕ → ℕ → ℕ
@@ -77,8 +80,8 @@ block n a = row n (base a) blockSize
 -- what an event that is not refused does
 abbrev pub effect : Expr → List ℤ → Event → Plan
 effect main n (fire a) = ((base a, fired main (block n a) .0) ∷ [], fired main (block n a) .1)
--- "b's heard slots 1–15 from a become the message's, absent ones too; the pending message goes"
-effect main n (deliver a b) = ((heardFrom b a + 1, row n (pendingTo a b + 1) 15) ∷ (pendingTo a b, noMessage) ∷ [], (pos 0, pos 0))
+-- "b's heard slots 1–15 from a become the message's, absent ones too; the pending message goes"; L1: "Delivery sets the age to 0."
+effect main n (deliver a b) = ((heardFrom b a + 1, row n (pendingTo a b + 1) 15) ∷ (ageOf b a, pos 0 ∷ []) ∷ (pendingTo a b, noMessage) ∷ [], (pos 0, pos 0))
 -- "the pending message goes"
 effect main n (lose a b) = ((pendingTo a b, noMessage) ∷ [], (pos 0, pos 0))
 -- "link a, b, distance; the mark ends it. Nothing else changes."

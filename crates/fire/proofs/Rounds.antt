@@ -1,8 +1,9 @@
 -- A device's messages and cells after a round, and a fire from its round's outcome. Assumes nothing.
 use mathlib.Core.Path.{_≡_, refl, sym, _∙_}
 use mathlib.Core.Bool.{true, false}
-use mathlib.Core.List.{List, _∷_}
-use Prim.Native.Nat.{ℕ, _+_, _-_, _*_, _≤_}
+use mathlib.Core.List.{List, [], _∷_, map}
+use Prim.Native.Nat.{ℕ, _+_, _-_, _*_, _≤_, _<_}
+use native.Mathlib.Nat.{add-zero}
 use native.Mathlib.Omega.{arith}
 use lib.ListN.{length, getD, take, drop}
 use lib.Seq.{getD-take, take-take}
@@ -14,9 +15,9 @@ use borrow.Author.Tests.{le-ltb}
 use Rattle.number.specs.Number.{mark}
 use Rattle.field.specs.Field.{devices, each}
 use Rattle.program.specs.Tree.{Expr}
-use Rattle.network.specs.Cells.{row, store}
-use Rattle.network.specs.Network.{blockSize, base, heardAt, pendingAt, noMessage}
-use Rattle.round.specs.Round.{State, Outcome, done, fault, arguments, eval, round, message, joined, after, firedBy, fired}
+use Rattle.network.specs.Cells.{row, store, write}
+use Rattle.network.specs.Network.{blockSize, base, heardAt, pendingAt, ageAt, noMessage}
+use Rattle.round.specs.Round.{State, Outcome, done, fault, arguments, eval, round, message, joined, older, ages, faded, after, firedBy, fired}
 use Rattle.event.specs.Event.{fire}
 use Rattle.event.specs.Step.{pendingTo, outOfRange, block, effect, plan}
 use Rattle.apply.specs.State.{stateSize, stateOf, faultOf, Gives}
@@ -26,9 +27,10 @@ use Rattle.effects.specs.Does.{answerOf, Acts, IdleRow, Idle}
 use Rattle.effects.proofs.Refusals.{is-14, is-0, turned}
 use Rattle.fire.specs.Fires.{ownSize, atFirst, IdleRows, Puts}
 use Rattle.domain.proofs.Laws.{from-same}
-use Rattle.effects.proofs.Rows.{row-length, store-row, joined-length}
+use Rattle.cells.proofs.Rows.{row-length, store-row, joined-length, write-into}
 use Rattle.effects.proofs.Idle.{message-length, idle-out}
-use Rattle.fire.proofs.Rows.{two-in}
+use Rattle.fading.specs.Fading.{Older}
+use Rattle.fading.proofs.Rows.{faded-length, ages-length}
 
 -- ---- the message to a device
 module _ (here : List ℤ) (s : State) (b : ℕ) where
@@ -47,6 +49,14 @@ module _ (here : List ℤ) (s : State) (b : ℕ) where
 -- of one behind what was stored
 pub idle-behind : (n m vs : List ℤ) (lo p : ℕ) → m ≡ store n lo vs → lo + length vs ≤ p → IdleRow (row n p 16) → IdleRow (row m p 16)
 idle-behind n m vs lo p e h i = rw e (idle-out n lo vs p (λ c x y z w. omega arith) i)
+
+-- of one of a device whose cells are from `at` on, where what it heard is a round older
+pub idle-older : (n m : List ℤ) (at b : ℕ) → at + blockSize ≤ length n → b < devices → Older n at m → IdleRow (row n (at + pendingAt 1 + 16 * b) 16) → IdleRow (row m (at + pendingAt 1 + 16 * b) 16)
+idle-older n m at b h l o i =
+    let p : ℕ = at + pendingAt 1 + 16 * b in
+    rw (o .network)
+    (idle-out (store n (at + heardAt 1) (joined (each (faded (row n at blockSize))))) (at + ageAt 1) (map older (ages (row n at blockSize))) p (λ c x y z w. omega arith)
+    (idle-out n (at + heardAt 1) (joined (each (faded (row n at blockSize)))) p (λ c x y z w. omega (arith, faded-length n at h)) i))
 
 -- of those of device a
 pub idle-rows : (n : List ℤ) (a : ℕ) → Idle n → 1 ≤ a → a ≤ devices → IdleRows n (base a + pendingAt 1)
@@ -109,14 +119,20 @@ module _ (main : Expr) (n : List ℤ) (a : ℕ) where
 
   -- the cells of a after its round, stored where they are
   stored-whole : (s : State) → base a + blockSize ≤ length n → length (s .variables) ≡ 16 → length (s .sent) ≡ 16
-      → store n (base a) (after (block n a) s)
-      ≡ store (store n (base a) (s .variables)) (base a + ownSize) (joined (each (message (row n (base a) ownSize) s)))
+      → store n (base a) (after (block n a) s) ≡ write n (
+      (base a + heardAt 1, joined (each (faded (block n a))))
+      ∷ (base a + ageAt 1, map older (ages (block n a)))
+      ∷ (base a, s .variables)
+      ∷ (base a + ownSize, joined (each (message (row n (base a) ownSize) s)))
+      ∷ [])
   unfolding after
   stored-whole s h v w =
-      let k : length (row n (base a) blockSize) ≡ blockSize = row-length n (base a) blockSize h in
-      two-in n (base a) blockSize (s .variables) ownSize (joined (each (message (block n a) s))) (omega arith)
-      (omega (arith, joined-length (message (block n a) s) 16 1 16 (λ b. message-length (block n a) s b w)))
-      ∙ rw (messages-same (block n a) s, take-take ownSize blockSize (drop (base a) n) (omega arith))
+      let k : length (block n a) ≡ blockSize = row-length n (base a) blockSize h in
+      let m = joined-length (message (block n a) s) 16 1 16 (λ b _. message-length (block n a) s (1 + b) w) in
+      let ws : List (ℕ × List ℤ) =
+      (heardAt 1, joined (each (faded (block n a)))) ∷ (ageAt 1, map older (ages (block n a))) ∷ (0, s .variables) ∷ (pendingAt 1, joined (each (message (block n a) s))) ∷ [] in
+      write-into n (block n a) (base a) ws (omega (arith, faded-length n (base a) h), (omega (arith, ages-length n (base a) h), (omega arith, (omega arith, tt))))
+      ∙ rw (store-row n (base a) blockSize, add-zero (base a), messages-same (block n a) s, take-take ownSize blockSize (drop (base a) n) (omega arith))
 
   module _ (here : List ℤ) (own : here ≡ row n (base a) ownSize) (r : ℤ) (first st : List ℤ) (x : Answer) (go : outOfRange (fire a) ≡ false)
       (e : stateOf first ≡ atFirst here) (g : Gives (eval here main (arguments (pos 0) (pos 0) (pos 0) (pos 0)) (stateOf first)) r st) where

@@ -70,6 +70,7 @@ fn put_round(net: &mut [i32], at: usize, here: &[i32; layout::OWN], st: &[i32])
     requires { ⌜ (at + blockSize ≤ length (now net)) × (length (now st) ≡ stateSize) × IdleRows (now net) (at + pendingAt 1) ⌝ }
     ensures { λ _. ⌜ Puts (now (net .entry)) at (now (here .entry)) (now (st .entry)) (now (net .exit)) ⌝ }
 {
+    fading::pass_round(net, at);
     cells::copy(net, at, st, 0, layout::ROW);
     put_messages(net, at + layout::PENDING, here, st);
 }

@@ -10,8 +10,11 @@ pub const MARK: i32 = -2147483648;
 // Its 32 bits, as a program has a constant.
 pub const MARK_BITS: u32 = 2147483648;
 
-// A device's cells: its variables, then its sensors, a row heard from each sender, a row pending to each hearer.
+// A device's cells: its variables, then its sensors, a row heard from each sender, a row pending to each hearer, a row of ages.
 pub const ROW: usize = 16;
+
+// Its slots, those behind its first cell.
+pub const SLOTS: usize = ROW - 1;
 
 pub const SENSORS: usize = 16;
 
@@ -19,8 +22,11 @@ pub const HEARD: usize = 17;
 
 pub const PENDING: usize = HEARD + DEVICES * ROW;
 
-// The rows of a device, heard and pending.
-pub const ROWS: usize = 2 * DEVICES;
+// The age of what was heard from each sender.
+pub const AGES: usize = PENDING + DEVICES * ROW;
+
+// The rows of a device: heard, pending, and that of the ages.
+pub const ROWS: usize = 2 * DEVICES + 1;
 
 pub const BLOCK: usize = HEARD + ROWS * ROW;
 
@@ -29,6 +35,14 @@ pub const OWN: usize = PENDING;
 
 // A network.
 pub const CELLS: usize = DEVICES * BLOCK;
+
+// A link's distance, at most.
+pub const FARTHEST: i32 = 1000000;
+
+// The age at which what was heard fades, and the oldest age before it.
+pub const FADES_AT: i32 = 3;
+
+pub const OLDEST: i32 = FADES_AT - 1;
 
 // A program's nodes.
 pub const NODES: usize = 256;

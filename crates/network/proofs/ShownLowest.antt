@@ -7,11 +7,11 @@ use Prim.Native.Nat.{ℕ, _+_, _-_}
 use lib.ListN.{take, set}
 use lib.IntN.{ℤ, pos, negℤ}
 use Rattle.number.specs.Number.{mark, eqZ}
-use Rattle.network.specs.Network.{sensorsAt, heardAt, pendingAt, blockSize, networkSize, base, copies, freshBlock, heardSound, pendingSound, cellSound, firstNot, placed, lowestUnsound}
+use Rattle.network.specs.Network.{sensorsAt, heardAt, pendingAt, blockSize, networkSize, base, copies, freshBlock, heardSound, pendingSound, anyPresent, ageSound, cellSound, firstNot, placed, lowestUnsound}
 
 -- what the examples compute with
 unfoldable opened : ℕ → ℕ
-unfolding copies heardSound pendingSound cellSound firstNot lowestUnsound
+unfolding copies heardSound pendingSound anyPresent ageSound cellSound firstNot lowestUnsound
 opened n = n
 
 abbrev is-0 : ℕ → ℤ → Bool
@@ -77,8 +77,8 @@ asked-for : (lowestUnsound 1 0 (changed sensorsAt mark) ≡ none) × (lowestUnso
 unfolding opened
 asked-for = (refl, refl, refl, refl, refl)
 
--- the last cell of the network: a slot of what is pending from device 16 to itself
-last-cell : (lowestUnsound 16 1 freshBlock ≡ none) × (lowestUnsound 16 1 (changed (blockSize - 1) (pos 0)) ≡ some 8463)
+-- the last cell of the network: the age of what device 16 heard from itself
+last-cell : (lowestUnsound 16 1 freshBlock ≡ none) × (lowestUnsound 16 1 (changed (blockSize - 1) (pos 0)) ≡ some 8719)
     × (lowestUnsound 16 1 (changed (blockSize - 1) (pos 0)) ≡ some (networkSize - 1))
 unfolding opened
 last-cell = (refl, refl, refl)

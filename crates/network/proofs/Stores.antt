@@ -1,12 +1,12 @@
--- Rows stored in a list of cells: one behind another, cell by cell, and what a cell holds after it. Assumes nothing.
+-- Rows stored in a list of cells: one behind another, cell by cell, and what a cell holds after it; a row of a row. Assumes nothing.
 use mathlib.Core.Path.{_≡_, refl, ap, _∙_}
 use mathlib.Core.List.{List, [], _∷_, _++_}
 use Prim.Native.Nat.{ℕ, zero, suc, _+_, _-_, _<_, _≤_}
 use native.Mathlib.Omega.{arith}
 use native.Mathlib.Numerals.{add-one, unary-clauses}
-use lib.ListN.{length, getD, set, take}
-use lib.Seq.{take-suc, length-take-le}
-use Rattle.network.specs.Cells.{store}
+use lib.ListN.{length, getD, set, take, drop}
+use lib.Seq.{take-suc, length-take-le, take-nil, take-take, drop-drop}
+use Rattle.network.specs.Cells.{row, store}
 
 module _ {A : Type 0} where
   pub length-store : (l : List A) (lo : ℕ) (vs : List A) → length (store l lo vs) ≡ length l
@@ -66,3 +66,13 @@ module _ {A : Type 0} where
 
   pub store-out : (l : List A) (lo : ℕ) (vs : List A) (c : ℕ) (d : A) → (lo ≤ c → c < lo + length vs → ⊥) → getD (store l lo vs) c d ≡ getD l c d
   store-out l lo vs c d h = store-has (λ x. x ≡ getD l c d) l lo vs c d refl (λ p q. absurd (h p q))
+
+  -- a row of a row
+  pub row-row : (l : List A) (lo m k len : ℕ) → k + len ≤ m → row (row l lo m) k len ≡ row l (lo + k) len
+  row-row l lo m k len h = go (drop lo l) m k h ∙ ap (take len) (drop-drop k lo l)
+    where
+      go : (l : List A) (m k : ℕ) → k + len ≤ m → take len (drop k (take m l)) ≡ take len (drop k l)
+      go l m zero h = take-take len m l (omega arith)
+      go [] m (suc k) h = rw (take-nil {A = A} m)
+      go (x ∷ l) zero (suc k) h = absurd (omega arith)
+      go (x ∷ l) (suc m) (suc k) h = go l m k (omega arith)

@@ -8,7 +8,7 @@ use lib.IntN.{ℤ, pos, negsuc}
 use borrow.Author.Tests.{eq-eqb}
 use Rattle.number.specs.Number.{eqZ, mark}
 use Rattle.program.specs.Check.{check, mainOf}
-use Rattle.network.specs.Network.{fresh, heardSound, pendingSound, cellSound, firstNot, lowestUnsound, soundness}
+use Rattle.network.specs.Network.{fresh, heardSound, pendingSound, anyPresent, ageSound, cellSound, firstNot, lowestUnsound, soundness}
 use Rattle.event.specs.Event.{Entry, entries, readList}
 use Rattle.event.specs.Step.{pendingTo, heardFrom, sensorsOf}
 use Rattle.event.specs.Calls.{room, Result, performed}
@@ -20,7 +20,7 @@ use Rattle.paper.proofs.Fresh.{fresh-sound}
 use Rattle.paper.proofs.Runs.{performs}
 
 pending-sound : soundness pending ≡ (0, 0)
-unfolding fresh heardSound pendingSound cellSound firstNot lowestUnsound soundness
+unfolding fresh heardSound pendingSound anyPresent ageSound cellSound firstNot lowestUnsound soundness
 pending-sound = refl
 
 eqZ-refl : (z : ℤ) → eqZ z z ≡ true

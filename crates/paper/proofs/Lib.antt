@@ -1,4 +1,5 @@
 pub mod Computed
 pub mod Fresh
 pub mod Runs
+pub mod Fading
 pub mod Clashes

@@ -23,7 +23,7 @@ pub performs : (program : List ℕ) (n : List ℤ) (list : List ℕ) (k : ℕ) (
     → ran program n list k ≡ performed (mainOf program) n l (replicate (2 * k) mark)
 performs program n list k l sound accepted read roomy = run-performed program n list (replicate (2 * k) mark) l accepted sound read roomy
 
-space : (r q : Result) → r ≡ q → r .space ≡ q .space
+pub space : (r q : Result) → r ≡ q → r .space ≡ q .space
 space r q e = ap (λ (z : Result). z .space) e
 
 pub paper : Paper

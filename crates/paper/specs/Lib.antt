@@ -1,3 +1,4 @@
 pub mod Programs
 pub mod Paper
 pub mod Needed
+pub mod Fading

@@ -6,7 +6,7 @@ use Rattle.number.specs.Number.{inf}
 use Rattle.program.specs.Conditions.{Part, node, define, programBytes}
 use Rattle.network.specs.Cells.{write}
 use Rattle.network.specs.Network.{fresh, base}
-use Rattle.event.specs.Step.{heardFrom}
+use Rattle.event.specs.Step.{heardFrom, ageOf}
 
 -- a node of a kind, with its items
 abbrev pub x : ℕ → List ℕ → Part
@@ -74,14 +74,28 @@ links a b distance = 0x13 ∷ 0 ∷ 6 ∷ a ∷ b ∷ distance
 abbrev pub signals : ℕ → ℕ → ℕ → List ℕ
 signals a s v = 0x14 ∷ 0 ∷ 3 ∷ a ∷ s ∷ v ∷ []
 
--- (iii): device 2, variable inf, neighbours 1 and 3 at 10, slot 1 heard 10 and inf, slot 2 heard 0 from both; (iv): slot 2 unheard
+-- (iii): device 2, variable inf, neighbours 1 and 3 at 10, slot 1 heard 10 and inf, slot 2 heard 0 from both; (iv): slot 2 unheard.
+-- From L1 on a slot that is heard has an age: what both sent has just been delivered (L1.7)
 abbrev pub neighbours : List ℤ
 neighbours =
-    write fresh ((base 2, inf ∷ []) ∷ (heardFrom 2 1, pos 10 ∷ pos 10 ∷ pos 0 ∷ []) ∷ (heardFrom 2 3, pos 10 ∷ inf ∷ pos 0 ∷ []) ∷ [])
+    write fresh (
+    (base 2, inf ∷ [])
+    ∷ (heardFrom 2 1, pos 10 ∷ pos 10 ∷ pos 0 ∷ [])
+    ∷ (heardFrom 2 3, pos 10 ∷ inf ∷ pos 0 ∷ [])
+    ∷ (ageOf 2 1, pos 0 ∷ [])
+    ∷ (ageOf 2 3, pos 0 ∷ [])
+    ∷ [])
 
 abbrev pub unranged : List ℤ
-unranged = write fresh ((base 2, inf ∷ []) ∷ (heardFrom 2 1, pos 10 ∷ pos 10 ∷ []) ∷ (heardFrom 2 3, pos 10 ∷ inf ∷ []) ∷ [])
+unranged =
+    write fresh (
+    (base 2, inf ∷ [])
+    ∷ (heardFrom 2 1, pos 10 ∷ pos 10 ∷ [])
+    ∷ (heardFrom 2 3, pos 10 ∷ inf ∷ [])
+    ∷ (ageOf 2 1, pos 0 ∷ [])
+    ∷ (ageOf 2 3, pos 0 ∷ [])
+    ∷ [])
 
 -- (x): device 2 has heard 3 from device 1 and 0 from device 3 in slot 1
 abbrev pub heardTwo : List ℤ
-heardTwo = write fresh ((heardFrom 2 1 + 1, pos 3 ∷ []) ∷ (heardFrom 2 3 + 1, pos 0 ∷ []) ∷ [])
+heardTwo = write fresh ((heardFrom 2 1 + 1, pos 3 ∷ []) ∷ (heardFrom 2 3 + 1, pos 0 ∷ []) ∷ (ageOf 2 1, pos 0 ∷ []) ∷ (ageOf 2 3, pos 0 ∷ []) ∷ [])

@@ -8,3 +8,4 @@ pub mod ShownErasing
 pub mod ShownNeighbours
 pub mod ShownFolds
 pub mod ShownFired
+pub mod ShownFading

@@ -8,12 +8,12 @@ use Rattle.number.specs.Number.{mark, add, div, brought, plus, minus, times, ov
 use Rattle.field.specs.Field.{Field, from, pointwise, faultsIn}
 use Rattle.program.specs.Tree.{Expr, constant, parameter, operator, sense, rep}
 use Rattle.network.specs.Cells.{write}
-use Rattle.network.specs.Network.{sensorsAt, heardAt, pendingAt, copies, freshBlock}
-use Rattle.round.specs.Round.{State, Outcome, operated, folded, sensed, heardIn, rangeIn, reps, erased, eval, round, message, joined, after, fired}
+use Rattle.network.specs.Network.{sensorsAt, heardAt, pendingAt, ageAt, copies, freshBlock}
+use Rattle.round.specs.Round.{State, Outcome, operated, folded, sensed, heardIn, rangeIn, reps, erased, eval, round, message, joined, fades, older, faded, after, fired}
 
 -- what the examples compute with
 unfoldable pub opened : ℕ → ℕ
-unfolding brought plus minus times over result faults from pointwise faultsIn copies operated folded sensed heardIn rangeIn reps erased eval round message joined after fired
+unfolding brought plus minus times over result faults from pointwise faultsIn copies operated folded sensed heardIn rangeIn reps erased eval round message joined fades older faded after fired
 opened n = n
 
 abbrev pub neg : ℕ → ℤ
@@ -51,7 +51,7 @@ abbrev pub full : List ℤ
 full = pos 0 ∷ pos 1 ∷ pos 2 ∷ pos 3 ∷ pos 4 ∷ pos 5 ∷ pos 6 ∷ pos 7 ∷ pos 8 ∷ pos 9 ∷ pos 10 ∷ pos 11 ∷ pos 12 ∷ pos 13 ∷ pos 14 ∷ pos 15 ∷ []
 
 -- A device's cells: variable 1 holds 40; sensors 1, 11 and 15 are lit. Heard: distance, slots 1, 2 and 3, from the devices 1, 3 (no link), 5, 6, 7 and 16; slot 15 too from 16.
--- Pending: messages to 1, and to 3, to which there is no link
+-- Pending: messages to 1, and to 3, to which there is no link. What was heard is new or was read by one round: none fades in the next
 abbrev pub cells : List ℤ
 cells =
     write freshBlock (
@@ -66,6 +66,8 @@ cells =
     ∷ (heardAt 16 + 15, pos 6 ∷ [])
     ∷ (pendingAt 1, pos 1 ∷ pos 2 ∷ pos 3 ∷ [])
     ∷ (pendingAt 3, pos 1 ∷ pos 4 ∷ mark ∷ pos 5 ∷ [])
+    ∷ (ageAt 1, pos 0 ∷ mark ∷ pos 1 ∷ mark ∷ pos 0 ∷ pos 1 ∷ [])
+    ∷ (ageAt 16, pos 0 ∷ [])
     ∷ [])
 
 -- an expression's outcome in them, where the parameters are 10, 20, 30 and 40

@@ -1,18 +1,19 @@
 -- A round: what evaluating the main expression answers, stores and sends. Definitions only: nothing is assumed.
-use mathlib.Core.Bool.{Bool, cond}
-use mathlib.Core.List.{List, [], _∷_, _++_}
+use mathlib.Core.Bool.{Bool, not, cond, _&&_, _||_}
+use mathlib.Core.List.{List, [], _∷_, _++_, map}
 use mathlib.Core.Option.{Option, none, some}
 use Prim.Native.Nat.{ℕ, _+_, _/_, _%_, _^_}
 use lib.ListN.{getD, set, take, drop, replicate}
 use lib.Dec.{ltb}
-use lib.IntN.{ℤ, pos, negsuc}
+use lib.IntN.{ℤ, pos, negsuc, _+ℤ_}
+use lib.Signed.{leZ}
 use Rattle.number.specs.Number.{mark, eqZ, Operator, result, faults}
-use Rattle.field.specs.Field.{each, Field, everywhere, pointwise, faultsIn}
+use Rattle.field.specs.Field.{devices, each, Field, everywhere, pointwise, faultsIn}
 use Rattle.program.specs.Tree.{Expr, nothing, constant, parameter, variable, operator, sense, rep, branch, mux, nbr, range, foldOp, foldDef, call}
-use Rattle.network.specs.Cells.{write}
-use Rattle.network.specs.Network.{sensorsAt, heardAt, pendingAt, noMessage}
+use Rattle.network.specs.Cells.{row, write}
+use Rattle.network.specs.Network.{sensorsAt, heardAt, pendingAt, ageAt, noMessage, slotsFrom}
 
--- what a round changes: its device's variables, and the slots it sends, each absent or a number (slot 0 is never sent)
+-- what evaluating changes: its device's variables, and the slots it sends, each absent or a number (slot 0 is never sent)
 pub record State : Type 0 where
   pub variables : List ℤ
   pub sent : List ℤ
@@ -174,9 +175,38 @@ unfoldable pub joined : {A : Type 0} → List (List A) → List A
 joined [] = []
 joined (l ∷ ls) = l ++ joined ls
 
--- a device's cells after a round: its variables and its messages are stored, all else stays
+-- L1: "Each completed round of the hearer then adds 1, after its reading. On reaching 3 .."
+abbrev pub fadesAt : ℤ
+fadesAt = pos 3
+
+-- whether what has the age z fades in this round
+unfoldable pub fades : ℤ → Bool
+fades z = not (eqZ z mark) && leZ fadesAt (z +ℤ pos 1)
+
+-- the age z after this round: ".. and the age become absent"; an absent one stays absent
+unfoldable pub older : ℤ → ℤ
+older z = cond (eqZ z mark || fades z) mark (z +ℤ pos 1)
+
+-- the ages of what was heard, and that of what was heard from b
+abbrev pub ages : List ℤ → List ℤ
+ages block = row block (ageAt 1) devices
+
+abbrev pub age : List ℤ → ℕ → ℤ
+age block b = getD block (ageAt b) (pos 0)
+
+-- the row heard from b after a round: ".. the sender's slots 1–15 .. become absent", the distance stays
+unfoldable pub faded : List ℤ → ℕ → List ℤ
+faded block b = distance block b ∷ cond (fades (age block b)) (replicate 15 mark) (slotsFrom block b)
+
+-- a device's cells after a round: what it heard is a round older, its variables and its messages are stored, all else stays
 unfoldable pub after : List ℤ → State → List ℤ
-after block s = write block ((0, s .variables) ∷ (pendingAt 1, joined (each (message block s))) ∷ [])
+after block s =
+    write block (
+    (heardAt 1, joined (each (faded block)))
+    ∷ (ageAt 1, map older (ages block))
+    ∷ (0, s .variables)
+    ∷ (pendingAt 1, joined (each (message block s)))
+    ∷ [])
 
 -- "0x10 fire a: the round." "A fault changes nothing." The device's cells, and the answer
 abbrev pub firedBy : Outcome → List ℤ → List ℤ × (ℤ × ℤ)

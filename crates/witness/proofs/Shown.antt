@@ -10,7 +10,7 @@ use Rattle.order.specs.Order.{count, place, SameEvents, KeepsOrder}
 use Rattle.order.proofs.Agree.{agree-sound}
 use Rattle.network.specs.Network.{fresh, base}
 use Rattle.event.specs.Event.{Entry}
-use Rattle.event.specs.Step.{Answer, heardFrom, pendingTo}
+use Rattle.event.specs.Step.{Answer, heardFrom, pendingTo, ageOf}
 use Rattle.event.specs.Calls.{Result, performed}
 use Rattle.program.specs.Check.{mainOf}
 use Rattle.event.proofs.Passed.{run-performed}
@@ -105,6 +105,7 @@ met =
       faults = (answered (fires 6) 0 _ one-of-two refl, answered (fires 6) 1 _ two refl);
       refused = (answered (fires 17) 0 _ one refl, answered (delivers 1 1) 0 _ one refl, answered (loses 1 4) 0 _ one refl);
       cells = (ends (base 1) _ refl, ends (pendingTo 1 2) _ refl, ends (heardFrom 3 1 + 1) _ refl);
+      ages = (ends (ageOf 3 1) _ refl, ends (ageOf 4 2) _ refl);
       empty = empty;
       alike-empty = demand-3 sameEntry counter fresh fresh _ _ _ _ _ _ empty;
     }

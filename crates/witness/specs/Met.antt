@@ -10,7 +10,7 @@ use Rattle.order.specs.Order.{count, place}
 use Rattle.program.specs.Table.{among}
 use Rattle.network.specs.Network.{fresh, base}
 use Rattle.event.specs.Event.{Entry}
-use Rattle.event.specs.Step.{Answer, heardFrom, pendingTo}
+use Rattle.event.specs.Step.{Answer, heardFrom, pendingTo, ageOf}
 use Rattle.event.specs.Calls.{Result, run}
 use Rattle.paper.specs.Programs.{counter}
 use Rattle.clash.specs.Clash.{entriesClash}
@@ -67,6 +67,8 @@ pub record Met : Type 0 where
   pub refused : (answer (fires 17) 0 ≡ (pos 14, pos 0)) × (answer (delivers 1 1) 0 ≡ (pos 15, pos 0)) × (answer (loses 1 4) 0 ≡ (pos 16, pos 0))
   -- and cells: device 1's variable is 1, its second message to 2 is pending, 3 has heard 6 from it
   pub cells : (cell (base 1) ≡ pos 1) × (cell (pendingTo 1 2) ≡ pos 1) × (cell (heardFrom 3 1 + 1) ≡ pos 6)
+  -- L1: "reorderings must leave the ages equal too": 3 has fired once since it heard 1, 4 not since it heard 2
+  pub ages : (cell (ageOf 3 1) ≡ pos 1) × (cell (ageOf 4 2) ≡ pos 0)
   -- "empty ones too"
   pub empty : Given entriesClash sameEntry counter fresh fresh [] [] [] [] [] []
   pub alike-empty : EndAlike sameEntry [] [] (run counter fresh [] []) (run counter fresh [] [])

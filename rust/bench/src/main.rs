@@ -76,19 +76,18 @@ fn words(nanos: f64) -> String {
 
 impl Column {
     /// The column's entry in the row of a work: from the times of all engines in each round, for calls that each did
-    /// so many events, or 1. `-` where an engine did not do the work.
+    /// so many events, or 1.
     fn entry(&self, times: &[Vec<f64>], events: usize) -> String {
         let each = |time: f64| words(time / events as f64);
         match *self {
-            Column::Time(of) if !times[of].is_empty() => {
+            Column::Time(of) => {
                 let least = times[of].iter().copied().fold(f64::MAX, f64::min);
                 format!("{} (least {})", each(median(times[of].clone())), each(least))
             }
-            Column::Ratio(of, to) if !times[of].is_empty() && !times[to].is_empty() => {
+            Column::Ratio(of, to) => {
                 let ratios = times[of].iter().zip(&times[to]).map(|(of, to)| of / to);
                 format!("{:.2}", median(ratios.collect()))
             }
-            _ => "-".into(),
         }
     }
 }
@@ -150,7 +149,7 @@ fn main() -> ExitCode {
     println!("Medians of {rounds} rounds, engines in turn in one process, without the time that others had the core;");
     println!("a ratio is the median of the rounds' ratios.");
     if before != NOW {
-        println!("Before: {before}. What that engine left is not compared; - is a work on a network of another size.");
+        println!("Before: {before}. What that engine left is not compared.");
     }
     print_table("work", &works::all(), false, engines, rounds);
     let growth = "distance-to, a run of so many events: time an event";

@@ -19,8 +19,15 @@ pub struct Work {
     pub number: u32,
     /// How many events one call does.
     pub events: usize,
-    /// The network before the first call, where it is not a fresh one.
-    pub start: Option<Vec<i32>>,
+    /// What is run on a fresh network before the first call, without being timed.
+    pub start: Option<Start>,
+}
+
+/// A program and events that bring a fresh network into use. Every engine does them itself, so that each has a network of
+/// its own layout.
+pub struct Start {
+    pub program: Vec<u8>,
+    pub list: Vec<Vec<u8>>,
 }
 
 #[derive(Clone, Copy)]
@@ -71,19 +78,23 @@ impl Work {
         }
     }
 
-    /// An engine's own network before the first call; none where the work's is of another size.
-    fn network(&self, timed: &Timed) -> Option<Vec<i32>> {
-        let Some(start) = &self.start else {
-            let mut fresh = vec![0; timed.sizes.cells];
-            assert_eq!(timed.engine.fresh(&mut fresh), (0, 0));
-            return Some(fresh);
-        };
-        (start.len() == timed.sizes.cells).then(|| start.clone())
+    /// An engine's own network before the first call.
+    fn network(&self, timed: &Timed) -> Vec<i32> {
+        let mut network = vec![0; timed.sizes.cells];
+        assert_eq!(timed.engine.fresh(&mut network), (0, 0));
+        if let Some(Start { program, list }) = &self.start {
+            let mut space = vec![0; timed.sizes.answer * list.len()];
+            let returned = timed.engine.run(program, &mut network, &list.concat(), &mut space);
+            assert_eq!(returned, (0, 0), "{}: the start of {}", timed.engine.name(), self.name);
+            let done = space.chunks(timed.sizes.answer).all(|answer| answer[0] == 0);
+            assert!(done, "{}: an event of the start of {} was refused", timed.engine.name(), self.name);
+        }
+        network
     }
 
     /// The time of a call in nanoseconds, and what was left.
-    fn time(&self, timed: &Timed) -> Option<(f64, Left)> {
-        let mut network = self.network(timed)?;
+    fn time(&self, timed: &Timed) -> (f64, Left) {
+        let mut network = self.network(timed);
         // Not of zeros, which would be given memory only when the calls write.
         let mut space = vec![1; timed.sizes.answer * self.events];
         let mut returned = vec![(0, 0); self.lists.len()];
@@ -95,18 +106,17 @@ impl Work {
         }
         let nanos = clock() - start;
         let calls = self.times * self.lists.len();
-        Some((nanos as f64 / calls as f64, Left { returned, network, space }))
+        (nanos as f64 / calls as f64, Left { returned, network, space })
     }
 
-    /// What each engine took in each round, in nanoseconds; nothing for one that cannot begin with the work's network.
-    /// Engines of the same sizes must do the same.
+    /// What each engine took in each round, in nanoseconds. Engines of the same sizes must do the same.
     pub fn measure(&self, engines: &[Timed], rounds: usize) -> Vec<Vec<f64>> {
         let mut times = vec![vec![]; engines.len()];
         for round in 0..rounds {
             let mut lefts: Vec<(Sizes, Left)> = vec![];
             for which in order(round, engines.len()) {
                 let timed = &engines[which];
-                let Some((time, left)) = self.time(timed) else { continue };
+                let (time, left) = self.time(timed);
                 times[which].push(time);
                 let (engine, name) = (timed.engine.name(), &self.name);
                 assert!(left.returned.iter().all(|(number, _)| *number == self.number), "{engine}: {name}");

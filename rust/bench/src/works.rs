@@ -1,45 +1,52 @@
 //! The works that are timed.
 
 use crate::engines::table;
-use crate::work::{Call, Work};
+use crate::work::{Call, Start, Work};
+use cases::events;
 use cases::grow::{self, Shape};
 use cases::random::Random;
 use cases::table::{Draft, Tree};
-use cases::{events, network};
 use differ::{Engine, Second};
 
-/// Sixteen devices, device 1 lit, each linked to its neighbours `near`: every device fires and is heard, in turn.
-fn fleet(near: impl Fn(u8) -> Vec<u8>, count: usize) -> Vec<Vec<u8>> {
-    let mut list = vec![events::signal(1, 1, 1)];
-    for a in 1..=16 {
-        list.extend(near(a).into_iter().map(|b| events::link(a, b, 10)));
-    }
-    while list.len() < count {
-        for a in 1..=16 {
-            list.push(events::fire(a));
-            list.extend(near(a).into_iter().map(|b| events::deliver(a, b)));
-        }
-    }
-    list.truncate(count);
-    list
+/// Who hears a device.
+type Near = fn(u8) -> Vec<u8>;
+
+/// In a square, those beside, before and behind it.
+fn square(a: u8) -> Vec<u8> {
+    let (row, column) = ((a - 1) / 4, (a - 1) % 4);
+    (1..=16).filter(|b| (row.abs_diff((b - 1) / 4) + column.abs_diff((b - 1) % 4)) == 1).collect()
 }
 
-/// A fleet in a square: each device hears those beside, before and behind it.
+/// In a ring, the one on either side, of every fourth the one opposite too.
+fn ring(a: u8) -> Vec<u8> {
+    let steps: &[u8] = if a % 4 == 1 { &[1, 8, 15] } else { &[1, 15] };
+    steps.iter().map(|step| (a - 1 + step) % 16 + 1).collect()
+}
+
+/// Device 1 is lit, each device linked to those near it.
+fn linked(near: Near) -> Vec<Vec<u8>> {
+    let links = (1..=16).flat_map(|a| near(a).into_iter().map(move |b| events::link(a, b, 10)));
+    [events::signal(1, 1, 1)].into_iter().chain(links).collect()
+}
+
+/// Every device fires and, where `heard`, those near it hear it.
+fn turn(near: Near, heard: bool) -> Vec<Vec<u8>> {
+    let one = |a: u8| {
+        let hearers = if heard { near(a) } else { vec![] };
+        [events::fire(a)].into_iter().chain(hearers.into_iter().map(move |b| events::deliver(a, b)))
+    };
+    (1..=16).flat_map(one).collect()
+}
+
+/// So many events of a fleet of sixteen devices, in which each is heard in every `often`-th turn.
+fn fleet(near: Near, often: usize, count: usize) -> Vec<Vec<u8>> {
+    let turns = (1..).flat_map(|number| turn(near, number % often == 0));
+    linked(near).into_iter().chain(turns).take(count).collect()
+}
+
+/// A fleet in a square that misses no message.
 fn grid(count: usize) -> Vec<Vec<u8>> {
-    let near = |a: u8| -> Vec<u8> {
-        let (row, column) = ((a - 1) / 4, (a - 1) % 4);
-        (1..=16).filter(|b| (row.abs_diff((b - 1) / 4) + column.abs_diff((b - 1) % 4)) == 1).collect()
-    };
-    fleet(near, count)
-}
-
-/// A fleet in a ring: each device hears the one on either side, every fourth the one opposite too.
-fn ring(count: usize) -> Vec<Vec<u8>> {
-    let near = |a: u8| -> Vec<u8> {
-        let steps: &[u8] = if a % 4 == 1 { &[1, 8, 15] } else { &[1, 15] };
-        steps.iter().map(|step| (a - 1 + step) % 16 + 1).collect()
-    };
-    fleet(near, count)
+    fleet(square, 1, count)
 }
 
 /// A program of 200 nodes that calculates: operators in a chain, with constants.
@@ -103,11 +110,13 @@ fn folds_and_calls() -> Draft {
     Draft { definitions, main, orphans: vec![] }
 }
 
-/// A fresh network in which device 1 has heard all others in slot 1.
-fn hears_all() -> Vec<i32> {
-    let mut cells = network::fresh();
-    (2..=16).for_each(|b| cells[network::heard(1, b, 1)] = b as i32);
-    cells
+/// Device 1 hears all others in slot 1.
+fn hears_all() -> Start {
+    let heard = Tree::new(8, &[1], vec![Tree::constant(2)]);
+    let main = Tree::new(10, &[0], vec![Tree::constant(0), heard]);
+    let program = table(&Draft { definitions: vec![], main, orphans: vec![] });
+    let hears = |b: u8| [events::link(b, 1, 10), events::fire(b), events::deliver(b, 1)];
+    Start { program, list: (2..=16).flat_map(hears).collect() }
 }
 
 fn mostly_refused(count: usize) -> Vec<Vec<u8>> {
@@ -144,6 +153,7 @@ fn distance_to() -> Vec<u8> {
 
 /// Runs on a whole fleet.
 fn fleets() -> Vec<Work> {
+    let seldom = fleet(square, 5, 20_000);
     let level = Draft { definitions: vec![], main: balanced(199), orphans: vec![] };
     assert_eq!(level.size(), 199);
     vec![
@@ -151,7 +161,18 @@ fn fleets() -> Vec<Work> {
         run("the same with 199 nodes of arithmetic, halves below halves", &table(&level), grid(20_000), 1),
         run("the same with 200 nodes of arithmetic in a chain, 100 deep", &arithmetic(), grid(20_000), 1),
         run("the same with a fold of eight nbrs, sums and constants between them", &fields(), grid(20_000), 1),
-        run("run of 20,000 events: distance-to, a ring, each hears two or three", &distance_to(), ring(20_000), 1),
+        run(
+            "run of 20,000 events: distance-to, a ring, each hears two or three",
+            &distance_to(),
+            fleet(ring, 1, 20_000),
+            1,
+        ),
+        run(
+            "run of 20,000 events: distance-to, the grid, one message in five is heard, and fades",
+            &distance_to(),
+            seldom,
+            1,
+        ),
     ]
 }
 
@@ -184,7 +205,25 @@ fn single_events() -> Vec<Work> {
         let lists = vec![events::link(1, 2, 10), events::fire(1), end];
         all.push(event(&format!("one event, in turn link, fire, {name}: each"), program, lists, 350));
     }
+    all.push(in_use());
+    all.push(silent());
     all
+}
+
+/// A grid in which all have heard each other: the events of its next turns, an event a call.
+fn in_use() -> Work {
+    let program = distance_to();
+    let list = [linked(square), turn(square, true), turn(square, true)].concat();
+    let name = "one event, a grid in use, its fires and deliveries in turn: each";
+    Work { start: Some(Start { program: program.clone(), list }), ..event(name, &program, turn(square, true), 16) }
+}
+
+/// A grid with all its links in which nobody has been heard, as when all have faded: signals, an event a call.
+fn silent() -> Work {
+    let program = distance_to();
+    let lists = (1..=16).flat_map(|a| [events::signal(a, 2, 1), events::signal(a, 2, 0)]).collect();
+    let name = "one event, a grid in which nobody is heard: signal";
+    Work { start: Some(Start { program: program.clone(), list: linked(square) }), ..event(name, &program, lists, 16) }
 }
 
 /// What is done without events.

@@ -84,7 +84,17 @@ fn odd_one(devices: &[u8], random: &mut Random) -> Event {
 }
 
 pub fn list(length: usize, devices: &[u8], odd: usize, random: &mut Random) -> Vec<Event> {
-    (0..length).map(|_| any(devices, odd, random)).collect()
+    let mut events = vec![];
+    while events.len() < length {
+        // Now and then one device does several rounds, in which what it heard fades.
+        if random.chance(4) {
+            let rounds = random.between(2, 5);
+            events.resize(events.len() + rounds, fire(random.pick(devices)));
+        }
+        events.push(any(devices, odd, random));
+    }
+    events.truncate(length);
+    events
 }
 
 pub struct Malformed {

@@ -134,8 +134,7 @@ fn fresh_case(random: &mut Random) -> Case {
     let devices = network::devices(random);
     let mut network = network::sound(&devices, random);
     if random.chance(30) {
-        let length = random.pick(&[0, 1, 529, network::CELLS - 1, network::CELLS + 1, 8_720]);
-        network.resize(length, 3);
+        network.resize(random.pick(&network::WRONG_LENGTHS), 3);
         let label = "fresh: 11 wrong length";
         return Case { label, call: Call::Fresh, network, expected: Some((11, Some(0))), ..empty() };
     }

@@ -1,9 +1,10 @@
-//! Cases that leave little to chance: every pair of edge numbers, every cell, every truncation, bit and event byte of
-//! some programs and events, and one long run.
+//! Cases that leave little to chance: every pair of edge numbers, every cell, every age, short histories of what is heard,
+//! every truncation, bit and event byte of some programs and events, and one long run.
 
 use crate::grow::{self, Shape};
+use crate::network::ABSENT;
 use crate::random::Random;
-use crate::table::{bytes, write, Draft, Tree};
+use crate::table::{bytes, split, write, Draft, Tree};
 use crate::{events, network, Call, Case};
 
 const EDGES: [i32; 17] = [
@@ -48,9 +49,11 @@ fn plain(main: Tree) -> Vec<u8> {
 }
 
 /// The labels of all systematic cases.
-pub const LABELS: [&str; 8] = [
+pub const LABELS: [&str; 10] = [
     "each pair of edge numbers",
     "each cell",
+    "each age",
+    "each history",
     "each truncation",
     "each truncation of a full table",
     "each bit",
@@ -63,6 +66,8 @@ pub const LABELS: [&str; 8] = [
 pub fn all(see: &mut dyn FnMut(Case)) {
     arithmetic(see);
     cells(see);
+    ages(see);
+    histories(see);
     programs(see);
     full_table(see);
     event_bytes(see);
@@ -90,6 +95,8 @@ fn arithmetic(see: &mut dyn FnMut(Case)) {
                 cells[network::heard(1, 3, 1)] = left;
                 cells[network::heard(1, 3, 2)] = right;
                 cells[network::heard(1, 7, 2)] = right;
+                cells[network::age(1, 3)] = 0;
+                cells[network::age(1, 7)] = 0;
                 // One run over all forms would need one program: each form is a run of its own.
                 for form in forms {
                     see(Case {
@@ -108,8 +115,8 @@ fn cells(see: &mut dyn FnMut(Case)) {
     let program = plain(Tree::constant(1));
     let busy = network::busy(&ALL, &mut Random::new(11, 4));
     for (start, numbers) in [
-        (network::fresh(), &[network::ABSENT, -1, 0, 1, 2, 65_535, 65_536, 1_000_000, 1_000_001][..]),
-        (busy, &[network::ABSENT, -1, 0, 2, 70_000][..]),
+        (network::fresh(), &[ABSENT, -1, 0, 1, 2, 65_535, 65_536, 1_000_000, 1_000_001][..]),
+        (busy, &[ABSENT, -1, 0, 2, 3, 70_000][..]),
     ] {
         for cell in 0..network::CELLS {
             let number = numbers[cell.wrapping_mul(7) % numbers.len()];
@@ -119,6 +126,81 @@ fn cells(see: &mut dyn FnMut(Case)) {
                 see(Case { network: cells, list: events::signal(1, 0, 1), ..case("each cell", Call::Event, &program) });
             }
         }
+    }
+}
+
+/// Each age with numbers around its limits, beside no slot and beside one, before a round of its device; then each slot
+/// without an age.
+fn ages(see: &mut dyn FnMut(Case)) {
+    const NUMBERS: [i32; 10] = [ABSENT, -i32::MAX, -1, 0, 1, 2, 3, 4, 1_000_000, i32::MAX];
+    let program = plain(Tree::constant(1));
+    for pair in 0..256 {
+        let (a, b) = (pair / 16 + 1, pair % 16 + 1);
+        let mut with = |slot: usize, number: i32, age: i32| {
+            let mut cells = network::fresh();
+            cells[network::heard(a, b, slot)] = number;
+            cells[network::age(a, b)] = age;
+            see(Case { network: cells, list: events::fire(a as u8), ..case("each age", Call::Event, &program) });
+        };
+        for age in NUMBERS {
+            with(1, ABSENT, age);
+            with(pair % 15 + 1, 7, age);
+        }
+        for slot in 1..=15 {
+            with(slot, 0, ABSENT);
+        }
+    }
+}
+
+/// A sum of what is heard in slot 1; nothing is read or sent where sensor 1 is lit, and where sensor 0 is it faults.
+fn listens() -> Vec<u8> {
+    let sense = |sensor: i32| Tree::new(4, &[], vec![Tree::constant(sensor)]);
+    let heard = Tree::new(10, &[0], vec![Tree::constant(0), Tree::new(8, &[1], vec![Tree::constant(5)])]);
+    let unless = Tree::new(6, &[], vec![sense(1), Tree::constant(0), heard]);
+    let rest = Tree::new(3, &[1], vec![Tree::constant(1), sense(0)]);
+    plain(Tree::sum(unless, Tree::new(3, &[3], vec![Tree::constant(1), rest])))
+}
+
+/// What can happen to what device 2 hears, each as a list of its own.
+fn happenings() -> [Vec<u8>; 6] {
+    use events::{deliver, fire, lose, signal};
+    [
+        vec![fire(1), deliver(1, 2)],
+        vec![fire(3), deliver(3, 2)],
+        // An empty message.
+        vec![signal(1, 1, 1), fire(1), signal(1, 1, 0), deliver(1, 2)],
+        vec![fire(1), lose(1, 2)],
+        vec![fire(2)],
+        // A faulted round.
+        vec![signal(2, 0, 1), fire(2), signal(2, 0, 0)],
+    ]
+    .map(|events| events.concat())
+}
+
+/// Each five happenings after each other on a network where nothing was heard, and each two where device 2 has heard 1
+/// and 3, with or without slots, at each age.
+fn histories(see: &mut dyn FnMut(Case)) {
+    let (program, happenings) = (listens(), happenings());
+    let mut run = |cells: &[i32], which: &[usize]| {
+        let list: Vec<u8> = which.iter().flat_map(|one| happenings[*one].clone()).collect();
+        let space = 2 * split(&list).len();
+        see(Case { network: cells.to_vec(), list, space, ..case("each history", Call::Run, &program) });
+    };
+    let mut linked = network::fresh();
+    for (a, b) in [(1, 2), (3, 2), (2, 1)] {
+        linked[network::heard(a, b, 0)] = 10;
+    }
+    for number in 0..6_usize.pow(5) {
+        run(&linked, &[0, 1, 2, 3, 4].map(|at| number / 6_usize.pow(at) % 6));
+    }
+    // By sender a number and an age, the mark where there is none.
+    let states = [(ABSENT, ABSENT), (7, 0), (7, 1), (7, 2), (ABSENT, 0), (ABSENT, 1), (ABSENT, 2)];
+    for number in 0..7 * 7 * 6 * 6 {
+        let mut cells = linked.clone();
+        for (b, state) in [(1, number % 7), (3, number / 7 % 7)] {
+            (cells[network::heard(2, b, 1)], cells[network::age(2, b)]) = states[state];
+        }
+        run(&cells, &[number / 49 % 6, number / 294]);
     }
 }
 

@@ -6,9 +6,13 @@
 //! to bring it into range first, and a device 256 could become 0.
 //!
 //! A host reads cells as it likes, and writes none but by [`take`](crate::messages::take) and
-//! [`put`](crate::messages::put).
+//! [`put`](crate::messages::put). (A test that writes heard slots itself writes an age beside them, else 11
+//! names the age's cell.)
+//!
+//! What is heard fades: a delivery sets the hearer's [`age`] for the sender to 0, each round that the hearer completes
+//! adds 1, and what three rounds have read is gone, but for the distance (`docs/MANUAL.md`, 6).
 
-use crate::{BLOCK, DEVICES, FIRST_HEARD, FIRST_PENDING, FIRST_SENSORS, ROW, VARIABLES};
+use crate::{BLOCK, DEVICES, FIRST_AGE, FIRST_HEARD, FIRST_PENDING, FIRST_SENSORS, ROW, VARIABLES};
 
 /// How far the number is above `least`, where it is one of the `count` numbers from there on.
 fn above(number: i64, least: i64, count: usize) -> Option<usize> {
@@ -39,10 +43,19 @@ pub fn distance(a: i64, b: i64) -> Option<usize> {
     row(a, FIRST_HEARD, b)
 }
 
-/// Slot `i`, 1 to 15, that `a` last heard from `b`: the mark or a number.
+/// Slot `i`, 1 to 15, that `a` last heard from `b`: a number; the mark where it was not in the message, and where the
+/// message has faded.
 #[must_use]
 pub fn heard(a: i64, b: i64, i: i64) -> Option<usize> {
     Some(row(a, FIRST_HEARD, b)? + slot(i)?)
+}
+
+/// The age of what `a` last heard from `b`: how many rounds `a` has completed since, 0 to 2; the mark where nothing was
+/// heard, where it has faded, and for `a` itself. It is present where a slot heard from `b` is; of an empty message it
+/// is present without one.
+#[must_use]
+pub fn age(a: i64, b: i64) -> Option<usize> {
+    Some(block(a)? + FIRST_AGE + above(b, 1, DEVICES)?)
 }
 
 /// 1 if a message is pending from `a` to `b`, else 0.

@@ -56,13 +56,13 @@ pub struct Event {
 }
 
 impl Event {
-    /// Device `a` does a round: its variables are stored, and each b that `a` has a link to has a message of `a`'s
-    /// pending.
+    /// Device `a` does a round: its variables are stored, what it has heard [ages or fades](crate::cells), and each b
+    /// that `a` has a link to has a message of `a`'s pending.
     pub fn fire(a: i64) -> Result<Event, NotWritten> {
         Ok(Event::new([FIRE, 0, 1, byte(a)?]))
     }
 
-    /// The message pending from `a` to `b` becomes what `b` last heard from `a`, and is no longer pending.
+    /// The message pending from `a` to `b` becomes what `b` last heard from `a`, at age 0, and is no longer pending.
     pub fn deliver(a: i64, b: i64) -> Result<Event, NotWritten> {
         Ok(Event::new([DELIVER, 0, 2, byte(a)?, byte(b)?]))
     }

@@ -4,9 +4,10 @@
 //! - a: does fire a; then, for each b, [`take`] gives the message to b as bytes, takes it out of a's network, and a
 //!   sends it;
 //! - b: looks whether it is for b (its second byte); [`put`] puts it into b's network, as pending; then b does deliver
-//!   a b at once;
-//! - lost: nobody does anything. Where a hears of it before its next fire, and its log shall have it: [`put`] on a's
-//!   network, then lose a b. After that fire it must not: at the office lose would throw away the newer message.
+//!   a b at once, which sets b's age for a to 0. On its way a message has no age; [`take`] and [`put`] touch none;
+//! - lost: nobody does anything, and what b heard from a before goes on ageing. Where a hears of it before its next
+//!   fire, and its log shall have it: [`put`] on a's network, then lose a b. After that fire it must not: at the office
+//!   lose would throw away the newer message.
 //!
 //! What the hosts see to: a message arrives as it was sent, once, and before its sender's next fire, or is thrown away
 //! (a later one is gone in the office's network); send along how often a has fired, rounds that faulted too, and log

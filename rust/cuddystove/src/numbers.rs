@@ -14,7 +14,7 @@ pub const FLOOR: i32 = -INF;
 /// Devices of a network, numbered 1 to 16.
 pub const DEVICES: usize = 16;
 /// Cells of one device's block.
-pub const BLOCK: usize = 529;
+pub const BLOCK: usize = 545;
 /// Cells of a network: the only length that it may have.
 pub const CELLS: usize = DEVICES * BLOCK;
 /// Variables of a device, 0 to 15.
@@ -29,8 +29,12 @@ pub const FIRST_SENSORS: usize = 16;
 pub const FIRST_HEARD: usize = 17;
 /// Where in a block the first pending row stands, that for device 1.
 pub const FIRST_PENDING: usize = 273;
+/// Where in a block the first age stands, that for device 1.
+pub const FIRST_AGE: usize = 529;
 /// The largest distance.
 pub const FARTHEST: i32 = 1_000_000;
+/// The largest age.
+pub const OLDEST: i32 = 2;
 
 /// Numbers of an answer space for each event; see [`answers`](crate::answers).
 pub const ANSWER: usize = 2;

@@ -58,7 +58,7 @@ impl fmt::Display for Sentence {
 /// 11: cell 0 may hold every number, so place 0 is the network's length.
 fn unsound(f: &mut fmt::Formatter, place: usize) -> fmt::Result {
     if place == 0 {
-        return f.write_str("The network is not 8,464 cells long.");
+        return f.write_str("The network is not 8,720 cells long.");
     }
     let (device, cell) = (place / BLOCK + 1, place % BLOCK);
     write!(f, "Cell {place} of the network holds what it may not (device {device}, cell {cell} of its block).")

@@ -12,7 +12,7 @@ const WORDS: [(&str, &str); 18] = [
     ("misread", "A node reads a parameter that its tree does not have, or a variable outside its rep's update."),
     ("misused definition", "A node calls a spatial definition a second time, or folds by one that may not fold."),
     ("too costly", "A round of the program costs more than 1,000,000."),
-    ("unsound network", "The network is not 8,464 cells long (place 0), or a cell holds what it may not."),
+    ("unsound network", "The network is not 8,720 cells long (place 0), or a cell holds what it may not."),
     ("bad list", "An event of the list is of unknown tag, of the wrong length, cut short, missing or one too many."),
     ("short answer space", "The answer space is shorter than two numbers an event."),
     ("bad item", "A device, sensor, switch or distance of the event is out of range."),

@@ -31,6 +31,7 @@ static void cells(int64_t a, int64_t b, int64_t i) {
     index_is(cuddystove_at_sensors(a));
     index_is(cuddystove_at_distance(a, b));
     index_is(cuddystove_at_heard(a, b, i));
+    index_is(cuddystove_at_age(a, b));
     index_is(cuddystove_at_is_pending(a, b));
     index_is(cuddystove_at_pending(a, b, i));
 }

@@ -55,6 +55,7 @@ fn cells_of(a: i64, b: i64, i: i64) -> String {
         cells::sensors(a),
         cells::distance(a, b),
         cells::heard(a, b, i),
+        cells::age(a, b),
         cells::is_pending(a, b),
         cells::pending(a, b, i),
     ];

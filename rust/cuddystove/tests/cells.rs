@@ -6,8 +6,8 @@ use cuddystove::{cells, fresh, ABSENT, CELLS};
 
 const OUTSIDE: [i64; 10] = [i64::MIN, -(1 << 32) + 1, -1, 0, 17, 18, 256, 257, (1 << 32) + 1, i64::MAX];
 
-/// 01: block a begins at (a - 1) 529; in it the variables from 0, the sensors at 16, the row heard from b at
-/// 17 + 16 (b - 1), the row pending to b at 273 + 16 (b - 1).
+/// 01 and L1: block a begins at (a - 1) 545; in it the variables from 0, the sensors at 16, the row heard from b at
+/// 17 + 16 (b - 1), the row pending to b at 273 + 16 (b - 1), the age for b at 529 + (b - 1).
 #[test]
 fn every_cell_once() {
     let mut seen = BTreeSet::new();
@@ -16,7 +16,7 @@ fn every_cell_once() {
         assert!(seen.insert(expected), "{expected} twice");
     };
     for a in 1..=16 {
-        let block = (a - 1) * 529;
+        let block = (a - 1) * 545;
         assert_eq!(cells::block(a), usize::try_from(block).ok());
         for v in 0..=15 {
             at(cells::variable(a, v), block + v);
@@ -26,6 +26,7 @@ fn every_cell_once() {
             let (heard, pending) = (block + 17 + 16 * (b - 1), block + 273 + 16 * (b - 1));
             at(cells::distance(a, b), heard);
             at(cells::is_pending(a, b), pending);
+            at(cells::age(a, b), block + 529 + (b - 1));
             for i in 1..=15 {
                 at(cells::heard(a, b, i), heard + i);
                 at(cells::pending(a, b, i), pending + i);
@@ -46,6 +47,7 @@ fn none_outside() {
             assert_eq!(cells::distance(a, b), None, "{a} {b}");
             assert_eq!(cells::heard(a, b, 1), None, "{a} {b}");
             assert_eq!(cells::is_pending(a, b), None, "{a} {b}");
+            assert_eq!(cells::age(a, b), None, "{a} {b}");
             assert_eq!(cells::pending(a, b, 1), None, "{a} {b}");
         }
     }
@@ -58,7 +60,7 @@ fn none_outside() {
     }
 }
 
-/// The engine agrees on which cells are sensors and pending marks.
+/// The engine agrees on which cells are sensors and pending marks; ages are absent.
 #[test]
 fn fresh_has_zeros_there() {
     let mut network = vec![7; CELLS];

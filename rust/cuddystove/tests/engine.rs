@@ -2,7 +2,9 @@
 
 use std::collections::BTreeSet;
 
-use cuddystove::{answers, check, event, fresh, run, run_both, Answer, Refusal, ABSENT, BLOCK, CELLS, INF};
+use cuddystove::{
+    answers, cells, check, event, fresh, run, run_both, Answer, Refusal, ABSENT, BLOCK, CELLS, INF, OLDEST,
+};
 
 /// 01's program (i): (rep x 0 (+ x 1)).
 const COUNTER: [u8; 39] = [
@@ -47,7 +49,7 @@ fn fresh_sets_every_cell() {
     for (cell, number) in network.iter().enumerate() {
         let zero = match cell % BLOCK {
             16 => true,
-            within => within >= 273 && (within - 273) % 16 == 0,
+            within => (273..529).contains(&within) && (within - 273) % 16 == 0,
         };
         assert_eq!(*number, if zero { 0 } else { ABSENT }, "cell {cell}");
     }
@@ -77,6 +79,30 @@ fn event_does_one() {
     assert_eq!(event(&DIVIDES, &mut network, &[0x10, 0, 1, 1], &mut space), Ok(()));
     assert_eq!(all(&space), [Answer::DividedByZero(2)]);
     assert_eq!(network, before);
+}
+
+/// A slot that was heard asks for an age, whose cell is named; an age asks for no slot.
+#[test]
+fn an_age_beside_slots() {
+    let (slot, age) = (cells::heard(3, 5, 15).expect("a slot"), cells::age(3, 5).expect("an age"));
+    let refused = |network: &mut [i32]| number_and_place(run(&COUNTER, network, &[], &mut []));
+    for number in [ABSENT, 7] {
+        let mut network = fresh_network();
+        network[slot] = number;
+        assert_eq!(refused(&mut network), if number == ABSENT { (0, 0) } else { (11, age) });
+        for good in 0..=OLDEST {
+            network[age] = good;
+            assert_eq!(refused(&mut network), (0, 0), "age {good}");
+        }
+        for bad in [-1, OLDEST + 1, INF] {
+            network[age] = bad;
+            assert_eq!(refused(&mut network), (11, age), "age {bad}");
+        }
+    }
+    let mut network = fresh_network();
+    let own = cells::age(3, 3).expect("an age");
+    network[own] = 0;
+    assert_eq!(refused(&mut network), (11, own));
 }
 
 /// 01's replay example.
@@ -128,16 +154,16 @@ fn refusals_in_words() {
          a kind byte."
     );
     let refusal = fresh(&mut [0; 3]).expect_err("too short");
-    assert_eq!(refusal.sentence().to_string(), "The network is not 8,464 cells long.");
+    assert_eq!(refusal.sentence().to_string(), "The network is not 8,720 cells long.");
     let mut network = fresh_network();
     network[2 * BLOCK + 273 + 16 * 4] = 2;
     let refusal = run(&COUNTER, &mut network, &[], &mut []).expect_err("unsound");
     assert_eq!(
         refusal.sentence().to_string(),
-        "Cell 1395 of the network holds what it may not (device 3, cell 337 of its block)."
+        "Cell 1427 of the network holds what it may not (device 3, cell 337 of its block)."
     );
     let error: &dyn std::error::Error = &refusal;
-    assert_eq!(error.to_string(), format!("refused 11 1395 (unsound network): {}", refusal.sentence()));
+    assert_eq!(error.to_string(), format!("refused 11 1427 (unsound network): {}", refusal.sentence()));
 }
 
 /// Each number has a name and a sentence of its own, be it returned or answered.

@@ -4,8 +4,9 @@ use std::collections::{BTreeMap, BTreeSet};
 
 use cuddystove::events::Event;
 use cuddystove::{
-    Answer, Refusal, ABSENT, BLOCK, CELLS, DEFINITIONS, DEVICES, FARTHEST, FIRST_HEARD, FIRST_PENDING, FIRST_SENSORS,
-    FLOOR, INF, LARGEST_COST, LONGEST_EVENT, LONGEST_MESSAGE, NODES, PARAMETERS, ROW, SENSORS, VARIABLES, VERSION,
+    Answer, Refusal, ABSENT, BLOCK, CELLS, DEFINITIONS, DEVICES, FARTHEST, FIRST_AGE, FIRST_HEARD, FIRST_PENDING,
+    FIRST_SENSORS, FLOOR, INF, LARGEST_COST, LONGEST_EVENT, LONGEST_MESSAGE, NODES, OLDEST, PARAMETERS, ROW, SENSORS,
+    VARIABLES, VERSION,
 };
 
 const HEADER: &str = include_str!("../../../include/cuddystove.h");
@@ -63,6 +64,7 @@ fn numbers_agree() {
         ("DEFINITIONS", DEFINITIONS as u32),
         ("DEVICES", DEVICES as u32),
         ("FARTHEST", FARTHEST as u32),
+        ("FIRST_AGE", FIRST_AGE as u32),
         ("FIRST_HEARD", FIRST_HEARD as u32),
         ("FIRST_PENDING", FIRST_PENDING as u32),
         ("FIRST_SENSORS", FIRST_SENSORS as u32),
@@ -70,6 +72,7 @@ fn numbers_agree() {
         ("LONGEST_EVENT", LONGEST_EVENT as u32),
         ("LONGEST_MESSAGE", LONGEST_MESSAGE as u32),
         ("NODES", NODES as u32),
+        ("OLDEST", OLDEST as u32),
         ("PARAMETERS", PARAMETERS as u32),
         ("ROW", ROW as u32),
         ("SENSORS", SENSORS as u32),
@@ -145,15 +148,15 @@ fn sentences_agree() {
     assert_eq!(theirs.iter().collect::<BTreeSet<_>>().len(), 19, "{theirs:?}");
     assert!(theirs.iter().all(|sentence| sentence.ends_with('.')));
     for (number, general) in (0..).zip(&theirs).filter(|(number, _)| *number != 11) {
-        for place in [0, 1, 38, 8_463] {
+        for place in [0, 1, 38, 8_719] {
             assert_eq!(Refusal::new(number, place).sentence().to_string(), with_place(general, place));
         }
     }
     // 11 is two cases in one sentence there.
-    let cases = [0, 1_395].map(|place| Refusal::new(11, place).sentence().to_string());
-    assert_eq!(cases[0], "The network is not 8,464 cells long.");
-    assert_eq!(cases[1], "Cell 1395 of the network holds what it may not (device 3, cell 337 of its block).");
-    assert_eq!(theirs[11], "The network is not 8,464 cells long (place 0), or a cell holds what it may not.");
+    let cases = [0, 1_427].map(|place| Refusal::new(11, place).sentence().to_string());
+    assert_eq!(cases[0], "The network is not 8,720 cells long.");
+    assert_eq!(cases[1], "Cell 1427 of the network holds what it may not (device 3, cell 337 of its block).");
+    assert_eq!(theirs[11], "The network is not 8,720 cells long (place 0), or a cell holds what it may not.");
     for number in [14, 15, 16] {
         let answer = Answer::from_pair([number, 0]).expect("an answer");
         assert_eq!(answer.sentence().to_string(), theirs[number as usize]);

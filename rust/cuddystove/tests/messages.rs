@@ -198,6 +198,33 @@ fn does(network: &mut [i32], list: &[u8]) -> [i32; 2] {
     space
 }
 
+/// A receipt sets the age, and rounds add to it; a put and a take leave it as it is.
+#[test]
+fn a_message_fades() {
+    let mut network = fresh_network();
+    let (age, heard) = (cells::age(2, 1).expect("two devices"), cells::heard(2, 1, 1).expect("a slot"));
+    let (deliver, fire) = (Event::deliver(1, 2).expect("bytes"), Event::fire(2).expect("bytes"));
+    let message = [1, 2, 0, 2, 0, 0, 0, 9];
+    assert_eq!(put(&mut network, &message), Some((1, 2)));
+    assert_eq!(network[age], ABSENT);
+    for _ in 0..2 {
+        assert_eq!(does(&mut network, deliver.as_bytes()), [0, 0]);
+        assert_eq!((network[age], network[heard]), (0, 9));
+        for after in [1, 2] {
+            assert_eq!(does(&mut network, fire.as_bytes()), [0, 9]);
+            assert_eq!(network[age], after);
+        }
+        assert_eq!(put(&mut network, &message), Some((1, 2)));
+        assert_eq!(network[age], 2);
+        assert_eq!(taken(&mut network, 1, 2).as_deref(), Some(&message[..]));
+        assert_eq!(network[age], 2);
+        assert_eq!(put(&mut network, &message), Some((1, 2)));
+    }
+    assert_eq!(does(&mut network, fire.as_bytes()), [0, 9]);
+    assert_eq!((network[age], network[heard]), (ABSENT, ABSENT));
+    assert_eq!(does(&mut network, fire.as_bytes()), [0, 0]);
+}
+
 /// Tablets 1 and 2, each with its own network, and the office with one network for both.
 #[test]
 fn from_network_to_network() {

@@ -6,7 +6,7 @@ use differ::{catch_mutants, compare, compare_all, Both, Engine, Report, Returned
 use mutants::Mutant;
 use std::process::Command;
 
-const MUTANTS: usize = 213;
+const MUTANTS: usize = 266;
 
 fn alike(report: &Report) {
     if let Some(difference) = &report.difference {
@@ -221,7 +221,7 @@ fn differences_can_be_seen_again() {
         "program: 01",
         "list: ",
         "answer space: ",
-        "network of 8464 cells",
+        "network of 8720 cells",
         "second engine and mutant",
     ] {
         assert!(difference.contains(word), "no '{word}' in: {difference}");
@@ -237,25 +237,29 @@ fn differences_can_be_seen_again() {
 #[test]
 fn every_cell_by_its_rule() {
     for cell in 0..cases::network::CELLS {
-        let (device, within) = (cell / 529, cell % 529);
+        let (device, within) = (cell / 545, cell % 545);
         let own = |start: usize| (within - start) / 16 == device;
-        for (at, number) in [i32::MIN, -1, 0, 1, 65_535, 65_536, 1_000_000, 1_000_001].into_iter().enumerate() {
+        for (at, number) in [i32::MIN, -1, 0, 1, 2, 3, 65_535, 65_536, 1_000_000, 1_000_001].into_iter().enumerate() {
+            let absent = number == i32::MIN;
             let sound = match within {
                 0..=15 => true,
                 16 => (0..65_536).contains(&number),
-                17..=272 if own(17) => number == i32::MIN,
-                17..=272 if (within - 17) % 16 != 0 => true,
-                17..=272 => number == i32::MIN || (0..=1_000_000).contains(&number),
-                _ if (within - 273) % 16 != 0 => number == i32::MIN,
-                _ => number == 0 || number == 1 && !own(273),
+                17..=272 if own(17) || (within - 17) % 16 != 0 => absent,
+                17..=272 => absent || (0..=1_000_000).contains(&number),
+                273..=528 if (within - 273) % 16 != 0 => absent,
+                273..=528 => number == 0 || number == 1 && !own(273),
+                _ => absent || (0..=2).contains(&number) && within - 529 != device,
             };
-            // Two in eight numbers for each cell.
-            if at % 4 != cell % 4 {
+            // Of ages every number, of other cells two, in each device others.
+            if within < 529 && at % 5 != (device + within) % 5 {
                 continue;
             }
             let mut network = cases::network::fresh();
             network[cell] = number;
-            let expected = if sound { (0, 0) } else { (11, cell) };
+            // A slot heard from another asks for its age.
+            let heard = (17..=272).contains(&within) && !own(17) && (within - 17) % 16 != 0;
+            let offends = if heard { device * 545 + 529 + (within - 17) / 16 } else { cell };
+            let expected = if sound { (0, 0) } else { (11, offends) };
             assert_eq!(second::run(&ONE, &mut network, &[], &mut []), expected, "cell {cell} = {number}");
         }
     }

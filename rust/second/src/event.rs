@@ -99,17 +99,12 @@ impl Event {
                     .map_err(|Fault(node)| Turned { number: 17, value: node as i32 })?;
                 device.variables = outcome.variables;
                 device.pending = device.distances.keys().map(|b| (*b, outcome.sent.clone())).collect();
+                device.fade();
                 return Ok(outcome.value);
             }
             Event::Deliver { a, b } => {
                 let message = network.device(a).pending.remove(&b).expect("refusal 16 passed");
-                let hearer = network.device(b);
-                for field in hearer.heard.values_mut() {
-                    field.remove(&a);
-                }
-                for (slot, number) in message {
-                    hearer.heard.entry(slot).or_default().insert(a, number);
-                }
+                network.device(b).hear(a, message);
             }
             Event::Lose { a, b } => {
                 network.device(a).pending.remove(&b);

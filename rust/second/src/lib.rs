@@ -1,7 +1,7 @@
 //! The second engine: document 01 once more, with trees for programs and maps for networks.
 //!
-//! It is the outside check of the proved engine: written from document 01 ("01"), 000's figures, the shared notes and
-//! `docs/DECISIONS.md`, with nothing read under `crates/`.
+//! It is the outside check of the proved engine: written from document 01 ("01"), 02's requests, 000's figures, the shared
+//! notes and `docs/DECISIONS.md`, with nothing read under `crates/`.
 //! Each call returns 01's number and place, and leaves every buffer as 01 states.
 #![deny(warnings)]
 #![forbid(unsafe_code)]

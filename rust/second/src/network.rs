@@ -7,9 +7,11 @@ use std::sync::LazyLock;
 
 /// Devices 1 to 16.
 pub const DEVICES: usize = 16;
-const BLOCK: usize = 529;
+const BLOCK: usize = 545;
 pub const CELLS: usize = DEVICES * BLOCK;
 pub const FARTHEST: i32 = 1_000_000;
+/// So many rounds read a message.
+pub const READINGS: i32 = 3;
 
 /// From device to number.
 pub type Field = BTreeMap<u8, i32>;
@@ -24,10 +26,27 @@ pub struct Device {
     pub lit: BTreeSet<u8>,
     /// Its links to others.
     pub distances: Field,
-    /// By slot, what was last heard from each sender.
-    pub heard: BTreeMap<u8, Field>,
+    /// By sender, the message last heard from it.
+    pub heard: BTreeMap<u8, Message>,
+    /// By sender, how many more rounds read that message, also an empty one: its age counted from the other end.
+    pub readings: BTreeMap<u8, i32>,
     /// By hearer, the message pending to it.
     pub pending: BTreeMap<u8, Message>,
+}
+
+impl Device {
+    /// Hears a message in place of the one before.
+    pub fn hear(&mut self, from: u8, message: Message) {
+        self.readings.insert(from, READINGS);
+        self.heard.insert(from, message);
+    }
+
+    /// A round has read all that was heard; what had its last reading is forgotten.
+    pub fn fade(&mut self) {
+        self.readings.values_mut().for_each(|left| *left -= 1);
+        self.readings.retain(|_, left| *left > 0);
+        self.heard.retain(|from, _| self.readings.contains_key(from));
+    }
 }
 
 #[derive(Clone, Debug, PartialEq, Eq)]
@@ -44,6 +63,7 @@ enum Cell {
     Heard { from: u8, slot: u8 },
     Pending { to: u8 },
     Sent { to: u8, slot: u8 },
+    Age { from: u8 },
 }
 
 /// The device that owns a cell, and what the cell stands for.
@@ -58,10 +78,11 @@ fn meaning(cell: usize) -> (u8, Cell) {
             (to, 0) => Cell::Distance { to },
             (from, slot) => Cell::Heard { from, slot },
         },
-        _ => match row(273) {
+        273..=528 => match row(273) {
             (to, 0) => Cell::Pending { to },
             (to, slot) => Cell::Sent { to, slot },
         },
+        _ => Cell::Age { from: (within - 529 + 1) as u8 },
     };
     (device, stands_for)
 }
@@ -79,6 +100,7 @@ fn address(device: u8, cell: Cell) -> usize {
         Cell::Heard { from, slot } => row(17, from, slot),
         Cell::Pending { to } => row(273, to, 0),
         Cell::Sent { to, slot } => row(273, to, slot),
+        Cell::Age { from } => 529 + usize::from(from) - 1,
     };
     (usize::from(device) - 1) * BLOCK + within
 }
@@ -100,6 +122,7 @@ fn sound(cells: &[i32], device: u8, cell: Cell, number: i32) -> bool {
         | Cell::Heard { from: other, .. }
         | Cell::Pending { to: other }
         | Cell::Sent { to: other, .. }
+        | Cell::Age { from: other }
             if other == device =>
         {
             number == when_fresh(cell)
@@ -108,6 +131,10 @@ fn sound(cells: &[i32], device: u8, cell: Cell, number: i32) -> bool {
         Cell::Heard { .. } => true,
         Cell::Pending { .. } => number == 0 || number == 1,
         Cell::Sent { to, .. } => number == ABSENT || cells[address(device, Cell::Pending { to })] != 0,
+        Cell::Age { from } if number == ABSENT => {
+            (1..=15).all(|slot| cells[address(device, Cell::Heard { from, slot })] == ABSENT)
+        }
+        Cell::Age { .. } => (0..READINGS).contains(&number),
     }
 }
 
@@ -139,13 +166,16 @@ impl Network {
                     device.distances.insert(to, *number);
                 }
                 Cell::Heard { from, slot } => {
-                    device.heard.entry(slot).or_default().insert(from, *number);
+                    device.heard.entry(from).or_default().insert(slot, *number);
                 }
                 Cell::Pending { to } => {
                     device.pending.insert(to, Message::new());
                 }
                 Cell::Sent { to, slot } => {
                     device.pending.entry(to).or_default().insert(slot, *number);
+                }
+                Cell::Age { from } => {
+                    device.readings.insert(from, READINGS - number);
                 }
             }
         }
@@ -166,10 +196,13 @@ impl Network {
             for (b, distance) in &device.distances {
                 put(Cell::Distance { to: *b }, *distance);
             }
-            for (slot, field) in &device.heard {
-                for (b, number) in field {
+            for (b, message) in &device.heard {
+                for (slot, number) in message {
                     put(Cell::Heard { from: *b, slot: *slot }, *number);
                 }
+            }
+            for (b, left) in &device.readings {
+                put(Cell::Age { from: *b }, READINGS - left);
             }
             for (b, message) in &device.pending {
                 put(Cell::Pending { to: *b }, 1);
@@ -206,9 +239,11 @@ mod tests {
                 Cell::Variable(v) => i32::from(v) - 7,
                 Cell::Sensors => 0x8001 + i32::from(device),
                 Cell::Distance { to } if to != device => 62_500 * i32::from(to),
-                Cell::Heard { from, slot } if from != device && slot != 3 => place as i32,
+                Cell::Heard { from, slot } if from != device && from != 9 && slot != 3 => place as i32,
                 Cell::Pending { to } if to != device => i32::from(to) % 2,
                 Cell::Sent { to, slot } if to != device && to % 2 == 1 && slot > 4 => -(place as i32),
+                // Device 9 is heard in no slot: its age is that of an empty message.
+                Cell::Age { from } if from != device => i32::from(from) % 3,
                 cell => when_fresh(cell),
             };
         }

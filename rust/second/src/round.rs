@@ -152,6 +152,6 @@ impl Round<'_> {
 
     /// The field of the devices heard in a slot.
     fn heard(&self, slot: u8) -> Field {
-        self.device.heard.get(&slot).cloned().unwrap_or_default()
+        self.device.heard.iter().filter_map(|(b, message)| Some((*b, *message.get(&slot)?))).collect()
     }
 }

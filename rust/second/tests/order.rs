@@ -49,6 +49,20 @@ fn events_at_one_device_that_do_not_clash() {
 }
 
 #[test]
+fn what_fades_in_another_order() {
+    // 2 hears 1 and reads it till it fades, 9 hears 8 and reads it once; woven, and one after the other.
+    let sends = |a: u8| [link(a, a + 1, 5), fire(a), fire(a), deliver(a, a + 1)];
+    let left = [&sends(1)[..], &[fire(2), fire(2), fire(2), fire(2)]].concat();
+    let right = [&sends(8)[..], &[fire(9), link(9, 8, 5), signal(9, 1, 1), lose(8, 9)]].concat();
+    let woven: Vec<Vec<u8>> = left.iter().zip(&right).flat_map(|(l, r)| [l.clone(), r.clone()]).collect();
+    alike(&distance_to(), &[&left[..], &right[..]].concat(), &[&right[..], &left[..]].concat());
+    alike(&distance_to(), &[&left[..], &right[..]].concat(), &woven);
+    let mut network = fresh();
+    run(&distance_to(), &mut network, &woven);
+    assert_eq!((network[age_cell(2, 1)], network[age_cell(9, 8)]), (ABSENT, 1));
+}
+
+#[test]
 fn copies_and_refused_events() {
     let first = [fire(1), fire(0), link(1, 1, 5), fire(1), fire(0), deliver(4, 5), fire(1), signal(2, 16, 0)];
     let second = [fire(0), deliver(4, 5), fire(1), signal(2, 16, 0), fire(0), fire(1), link(1, 1, 5), fire(1)];

@@ -42,9 +42,9 @@ fn example_store(slot_2_heard: bool) -> Vec<i32> {
     network[variable_cell(2, 0)] = INF;
     for (b, estimate) in [(1, 10), (3, INF)] {
         network[heard_cell(2, b, 0)] = 10;
-        network[heard_cell(2, b, 1)] = estimate;
+        put_heard(&mut network, 2, b, 1, estimate);
         if slot_2_heard {
-            network[heard_cell(2, b, 2)] = 0;
+            put_heard(&mut network, 2, b, 2, 0);
         }
     }
     network
@@ -61,6 +61,7 @@ fn iii_distance_to() {
         expected[pending_cell(2, b, 0)] = 1;
         expected[pending_cell(2, b, 1)] = INF;
         expected[pending_cell(2, b, 2)] = 0;
+        expected[age_cell(2, b)] = 1;
     }
     assert_eq!(network, expected);
 }
@@ -101,8 +102,8 @@ fn x_fold_by_greater() {
     let fold = t.node(&[10, GREATER, five, nbr]);
     let program = t.main(fold);
     let mut network = fresh();
-    network[heard_cell(2, 1, 1)] = 3;
-    network[heard_cell(2, 3, 1)] = 0;
+    put_heard(&mut network, 2, 1, 1, 3);
+    put_heard(&mut network, 2, 3, 1, 0);
     assert_eq!(run(&program, &mut network, &[fire(2)]), [(0, 1)]);
 }
 
@@ -204,7 +205,7 @@ fn shortcut_sending_nothing_when_no_slot_was_sent() {
     let rep = t.counter(0);
     let program = t.main(rep);
     let mut network = fresh();
-    network[heard_cell(2, 1, 4)] = 8;
+    put_heard(&mut network, 2, 1, 4, 8);
     assert_eq!(run(&program, &mut network, &[link(1, 2, 9), fire(1), deliver(1, 2)]), [(0, 0), (0, 0), (0, 0)]);
     assert_eq!(network[heard_cell(2, 1, 4)], ABSENT, "the empty message replaced what was heard");
 }
@@ -272,9 +273,10 @@ fn a_fault_changes_nothing() {
     let sum = t.node(&[3, ADD, choice, division]);
     let program = t.main(sum);
     let mut network = fresh();
-    network[heard_cell(1, 16, 1)] = 3;
+    put_heard(&mut network, 1, 16, 1, 3);
     assert_eq!(run(&program, &mut network, &[link(1, 2, 5), fire(1), fire(1)]), [(0, 0), (0, 2), (0, 3)]);
     network[heard_cell(1, 16, 1)] = ABSENT;
+    assert_eq!(network[age_cell(1, 16)], 2, "after two rounds");
     let mut before = network.clone();
     before[16] = 1;
     let answers = run(&program, &mut network, &[signal(1, 0, 1), fire(1)]);
@@ -309,7 +311,7 @@ fn the_node_that_divided() {
     let program = t.main(fold);
     let mut network = fresh();
     assert_eq!(run(&program, &mut network, &[fire(4)]), [(0, 1)], "no device, no division");
-    network[heard_cell(4, 5, 1)] = 0;
+    put_heard(&mut network, 4, 5, 1, 0);
     assert_eq!(run(&program, &mut network, &[fire(4)]), [(17, i32::from(fold))]);
 }
 
@@ -333,12 +335,11 @@ fn fields_pointwise() {
     let total = t.node(&[3, ADD, fold, empty]);
     let program = t.main(total);
     let mut network = fresh();
-    network[heard_cell(1, 2, 1)] = 1;
-    network[heard_cell(1, 3, 1)] = 2;
-    network[heard_cell(1, 3, 2)] = 20;
-    network[heard_cell(1, 4, 2)] = 40;
+    for (b, slot, number) in [(2, 1, 1), (3, 1, 2), (3, 2, 20), (4, 2, 40)] {
+        put_heard(&mut network, 1, b, slot, number);
+    }
     assert_eq!(run(&program, &mut network, &[fire(1)]), [(0, 78)]);
-    network[heard_cell(1, 4, 3)] = 9;
+    put_heard(&mut network, 1, 4, 3, 9);
     assert_eq!(run(&program, &mut network, &[fire(1)]), [(17, i32::from(division))]);
 }
 
@@ -350,14 +351,12 @@ fn nbr_range_asks_for_0_heard_and_a_link() {
     let fold = t.node(&[10, ADD, zero, range]);
     let program = t.main(fold);
     let mut network = fresh();
-    network[heard_cell(1, 2, 0)] = 3;
-    network[heard_cell(1, 2, 1)] = 0;
-    network[heard_cell(1, 3, 0)] = 40;
-    network[heard_cell(1, 3, 1)] = 1;
-    network[heard_cell(1, 4, 0)] = 500;
-    network[heard_cell(1, 5, 1)] = 0;
-    network[heard_cell(1, 6, 0)] = 0;
-    network[heard_cell(1, 6, 1)] = 0;
+    for (b, distance) in [(2, 3), (3, 40), (4, 500), (6, 0)] {
+        network[heard_cell(1, b, 0)] = distance;
+    }
+    for (b, number) in [(2, 0), (3, 1), (5, 0), (6, 0)] {
+        put_heard(&mut network, 1, b, 1, number);
+    }
     assert_eq!(run(&program, &mut network, &[fire(1)]), [(0, 3)]);
 }
 
@@ -377,7 +376,7 @@ fn folds_go_from_the_lowest_device() {
     let program = t.main(fold);
     let mut network = fresh();
     for b in [1, 2, 9, 16] {
-        network[heard_cell(5, b, 15)] = (b % 10) as i32;
+        put_heard(&mut network, 5, b, 15, (b % 10) as i32);
     }
     assert_eq!(run(&program, &mut network, &[fire(5)]), [(0, 1_296)]);
 }

@@ -559,13 +559,18 @@ fn refused_on(program: &[u8], network: &[i32], list: &[u8], space: usize) -> [(u
 }
 
 #[test]
-fn refusal_11_network() {
-    for length in [0, 1, CELLS - 1, CELLS + 1] {
+fn refusal_11_wrong_length() {
+    // A network without ages had 8,464 cells.
+    for length in [0, 1, 8_464, CELLS - 1, CELLS + 1, CELLS + 16] {
         let mut network = vec![5; length];
         assert_eq!(second::fresh(&mut network), (11, 0));
         assert_eq!(network, vec![5; length]);
         assert_eq!(refused_on(&seven(), &vec![ABSENT; length], &fire(1), 2), [(11, 0); 2]);
     }
+}
+
+#[test]
+fn refusal_11_network() {
     let spoil = |place: usize, number: i32| {
         let mut network = fresh();
         network[place] = number;
@@ -574,7 +579,6 @@ fn refusal_11_network() {
     for (place, good, bad) in [
         (block(3) + 16, &[1, 65_535][..], &[-1, 65_536, ABSENT][..]),
         (heard_cell(2, 9, 0), &[0, 1_000_000], &[-1, 1_000_001, FLOOR]),
-        (heard_cell(2, 9, 1), &[0, FLOOR, INF], &[]),
         (pending_cell(16, 9, 0), &[1], &[2, -1, ABSENT]),
         (pending_cell(2, 9, 1), &[], &[0, 1, FLOOR]),
         (pending_cell(2, 16, 15), &[], &[0]),
@@ -582,6 +586,11 @@ fn refusal_11_network() {
         (heard_cell(2, 2, 15), &[], &[0]),
         (pending_cell(2, 2, 0), &[], &[1, 2, ABSENT]),
         (pending_cell(16, 16, 15), &[], &[0]),
+        (age_cell(2, 9), &[0, 1, 2], &[3, 4, -1, FLOOR, INF, 1_000_000]),
+        (age_cell(16, 1), &[0, 1, 2], &[3, -1]),
+        (age_cell(1, 16), &[0, 1, 2], &[3, -1]),
+        (age_cell(2, 2), &[], &[0, 1, 2, 3, -1]),
+        (age_cell(16, 16), &[], &[0]),
         (variable_cell(2, 15), &[0, FLOOR, INF], &[]),
     ] {
         for number in good {
@@ -592,15 +601,64 @@ fn refusal_11_network() {
         }
     }
     let mut network = fresh();
-    // 547 is a heard slot and sound; 4,000 is a slot of a message that is not pending.
-    for place in [8_463, 5_000, 4_000, 547] {
+    let lowest = pending_cell(8, 9, 7);
+    for place in [variable_cell(2, 2), lowest, age_cell(8, 9), block(9) + 16, age_cell(16, 16)] {
         network[place] = 70_000_000;
     }
-    assert_eq!(refused_on(&seven(), &network, &fire(1), 2), [(11, 4_000); 2], "the lowest");
+    assert_eq!(refused_on(&seven(), &network, &fire(1), 2), [(11, lowest); 2], "the lowest");
     let mut network = fresh();
     network[pending_cell(1, 1, 0)] = 1;
     network[pending_cell(1, 1, 3)] = 1;
     assert_eq!(refused_on(&seven(), &network, &fire(1), 2), [(11, pending_cell(1, 1, 0)); 2]);
+}
+
+#[test]
+fn refusal_11_a_slot_heard_asks_for_an_age() {
+    let outcome = |network: &[i32]| refused_on(&seven(), network, &fire(1), 2);
+    for (a, b) in [(1, 2), (2, 1), (2, 9), (16, 15), (15, 16)] {
+        for slot in 1..=15 {
+            for number in [0, FLOOR, INF] {
+                let mut network = fresh();
+                network[heard_cell(a, b, slot)] = number;
+                assert_eq!(outcome(&network), [(11, age_cell(a, b)); 2], "the age's cell, not the slot's");
+                for age in 0..=2 {
+                    network[age_cell(a, b)] = age;
+                    assert_eq!(outcome(&network), [(0, 0); 2], "{number} heard in slot {slot}, age {age}");
+                }
+                network[age_cell(a, b)] = 3;
+                assert_eq!(outcome(&network), [(11, age_cell(a, b)); 2]);
+            }
+        }
+    }
+    // A distance asks for none, nor does an age ask for a slot.
+    let mut network = fresh();
+    network[heard_cell(2, 9, 0)] = 0;
+    network[age_cell(2, 10)] = 2;
+    assert_eq!(outcome(&network), [(0, 0); 2]);
+    // A slot of its own row offends itself, before the age that is missing beside it.
+    let mut network = fresh();
+    network[heard_cell(2, 2, 1)] = 0;
+    assert_eq!(outcome(&network), [(11, heard_cell(2, 2, 1)); 2]);
+}
+
+#[test]
+fn refusal_11_ages_stand_behind_the_pending_cells() {
+    let mut network = fresh();
+    let mut expect = |place: usize, number: i32, lowest: usize| {
+        network[place] = number;
+        assert_eq!(refused_on(&seven(), &network, &fire(1), 2), [(11, lowest); 2], "cell {place} = {number}");
+    };
+    // Each cell stands before those that were broken so far, but for those with another named.
+    expect(block(4) + 16, -1, block(4) + 16);
+    expect(age_cell(3, 16), 3, age_cell(3, 16));
+    expect(heard_cell(3, 9, 15), 7, age_cell(3, 9));
+    expect(heard_cell(3, 8, 1), 7, age_cell(3, 8));
+    expect(age_cell(3, 2), INF, age_cell(3, 2));
+    expect(age_cell(3, 3), 0, age_cell(3, 2));
+    expect(pending_cell(3, 16, 15), 5, pending_cell(3, 16, 15));
+    expect(pending_cell(3, 16, 0), 2, pending_cell(3, 16, 0));
+    expect(age_cell(3, 1), -1, pending_cell(3, 16, 0));
+    expect(age_cell(2, 16), FLOOR, age_cell(2, 16));
 }
 
 #[test]
@@ -672,6 +730,7 @@ fn refusals_14_to_17_change_only_their_answer() {
     busy[pending_cell(1, 2, 0)] = 1;
     busy[pending_cell(1, 2, 7)] = 70;
     busy[heard_cell(1, 3, 0)] = 7;
+    put_heard(&mut busy, 1, 3, 2, 30);
     for (event, answer) in [
         (fire(0), (14, 0)),
         (fire(17), (14, 0)),

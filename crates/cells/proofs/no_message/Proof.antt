@@ -19,9 +19,6 @@ slice-set-of-net c = search needs
 add-clear : tie.Need-add-clear
 add-clear c = search needs
 
-sub-clear : tie.Need-sub-clear
-sub-clear c = search needs
-
 clear-requires : tie.Need-clear-requires
 clear-requires c κs = omega (arith, length-set (now (c .before .args .net)) (c .before .args .at) (pos 0))
 
@@ -33,4 +30,4 @@ returns c = c .before .clear .ensures ∙ store-cons (now (c .before .before .be
 
 pub no-message-spec : {M : Type 1} → statement M
 no-message-spec =
-    tie.close (tie.spec mul-net slice-set-of-net add-clear sub-clear clear-requires same-length returns)
+    tie.close (tie.spec mul-net slice-set-of-net add-clear clear-requires same-length returns)

@@ -5,8 +5,8 @@ use lib.ListN.{replicate}
 use lib.IntN.{pos}
 use Rattle.network.specs.Cells.{row}
 use Rattle.fire.specs.Fires.{ownSize}
-use Rattle.effects.proofs.Rows.{row-length}
-use Rattle.fire.proofs.Rows.{store-all}
+use Rattle.cells.proofs.Rows.{row-length}
+use Rattle.network.proofs.Stores.{store-all}
 use Rattle.fire.proofs.own_cells.Statement.{statement}
 use Rattle.fire.proofs.own_cells.Tie as tie
 

@@ -16,7 +16,7 @@ use Rattle.round.specs.Round.{message}
 use Rattle.apply.specs.State.{stateOf}
 use Rattle.arith.proofs.Signs.{same-bits}
 use Rattle.fire.proofs.Rows.{first-again}
-use Rattle.effects.proofs.Rows.{row-length, store-row, row-first}
+use Rattle.cells.proofs.Rows.{row-length, store-row, row-first}
 use Rattle.fire.proofs.Rounds.{unlinked, linked}
 use borrow.Author.Needs.{needs, sfits-of}
 use Rattle.fire.proofs.put_message.Statement.{statement}

@@ -10,9 +10,8 @@ use Rattle.field.specs.Field.{from}
 use Rattle.round.specs.Round.{message, joined}
 use Rattle.apply.specs.State.{stateOf}
 use Rattle.network.proofs.Stores.{length-store}
-use Rattle.effects.proofs.Rows.{joined-length}
+use Rattle.cells.proofs.Rows.{Stored, none-yet, row-more, joined-length, joined-more}
 use Rattle.effects.proofs.Idle.{message-length}
-use Rattle.fire.proofs.Rows.{Stored, none-yet, row-more, joined-more}
 use Rattle.fire.proofs.Rounds.{sent-length, idle-behind}
 use Rattle.fire.proofs.put_messages.Statement.{statement}
 use Rattle.fire.proofs.put_messages.Tie as tie
@@ -44,7 +43,7 @@ put-message-requires : tie.Need-put-message-requires Inv-loop μ-loop
 put-message-requires c κs =
     let s = c .before .before .before in
     let l = c .before .before .loop in
-    let k = joined-length (messages s) 16 1 (l .b) (row-of s) in
+    let k = joined-length (messages s) 16 1 (l .b) (λ j _. row-of s (1 + j)) in
     (search needs, search needs, search needs, idle-behind _ _ _ (s .args .at) (s .args .at + 16 * l .b) (l .inv .2 .is) (omega (arith, k)) (s .pre .2 (l .b) (omega arith)))
 
 add-b : tie.Need-add-b Inv-loop μ-loop
@@ -61,7 +60,7 @@ loop-again c =
     let e = c .before .put-message .ensures in (
       omega arith,
       rw e (simp length-store (l .inv .1)),
-      rw (joined-more f 1 (l .b), e) (row-more (16 * l .b) (f (1 + l .b)) (joined-length f 16 1 (l .b) (row-of s)) (l .inv .2)),
+      rw (joined-more f 1 (l .b), e) (row-more (16 * l .b) (f (1 + l .b)) (joined-length f 16 1 (l .b) (λ j _. row-of s (1 + j))) (l .inv .2)),
     )
 
 same-length : tie.Need-same-length Inv-loop μ-loop

@@ -9,11 +9,11 @@ use Rattle.arith.proofs.Signs.{same-bits}
 use Rattle.scan.proofs.pending_row.Statement.{statement}
 use Rattle.scan.proofs.pending_row.Tie as tie
 
-row-is-requires : tie.Need-row-is-requires
-row-is-requires c κs = search needs
+rows-are-requires : tie.Need-rows-are-requires
+rows-are-requires c κs = search needs
 
 returns : tie.Need-returns
-returns c = λ t. nothing (c .before .row-is .ensures (c .if1 .taken))
+returns c = λ t. nothing (c .before .rows-are .ensures (c .if1 .taken))
 
 mul-result : tie.Need-mul-result
 mul-result c = search needs
@@ -26,4 +26,4 @@ returns-2 c = λ t. message (same-bits w32 _ (pos 1) (sfits-of (c .result .given
 
 pub pending-row-spec : {M : Type 1} → statement M
 pending-row-spec =
-    tie.close (tie.spec row-is-requires returns mul-result shared-slice-copy-out-result returns-2)
+    tie.close (tie.spec rows-are-requires returns mul-result shared-slice-copy-out-result returns-2)

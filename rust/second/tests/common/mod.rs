@@ -4,7 +4,7 @@
 pub const INF: i32 = i32::MAX;
 pub const FLOOR: i32 = -INF;
 pub const ABSENT: i32 = i32::MIN;
-pub const CELLS: usize = 8_464;
+pub const CELLS: usize = 8_720;
 
 pub const ADD: u8 = 0;
 pub const SUB: u8 = 1;
@@ -115,7 +115,7 @@ pub fn fresh() -> Vec<i32> {
 }
 
 pub fn block(a: usize) -> usize {
-    (a - 1) * 529
+    (a - 1) * 545
 }
 
 pub fn variable_cell(a: usize, v: usize) -> usize {
@@ -129,6 +129,17 @@ pub fn heard_cell(a: usize, b: usize, i: usize) -> usize {
 
 pub fn pending_cell(a: usize, b: usize, i: usize) -> usize {
     block(a) + 273 + 16 * (b - 1) + i
+}
+
+/// The age of what a last heard from b.
+pub fn age_cell(a: usize, b: usize) -> usize {
+    block(a) + 529 + (b - 1)
+}
+
+/// Writes slot i heard by a from b, and an age of 0 beside it.
+pub fn put_heard(network: &mut [i32], a: usize, b: usize, i: usize, number: i32) {
+    network[heard_cell(a, b, i)] = number;
+    network[age_cell(a, b)] = 0;
 }
 
 pub fn fire(a: u8) -> Vec<u8> {

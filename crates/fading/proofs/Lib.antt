@@ -1,0 +1,2 @@
+mod Ages
+pub mod Rows
