@@ -20,8 +20,8 @@
 #include <stddef.h>
 #include <stdint.h>
 
-#define CUDDYSTOVE_VERSION "0.2.0"    // of this header and its library; a change of cells, bytes or answers raises the middle number
-#define CUDDYSTOVE_VERSION_NUMBER 200 // the same to compare: 10,000, 100 and 1 times its numbers
+#define CUDDYSTOVE_VERSION "0.3.0"    // of this header and its library; a change of cells, bytes or answers raises the middle number
+#define CUDDYSTOVE_VERSION_NUMBER 300 // the same to compare: 10,000, 100 and 1 times its numbers
 
 // A result that must be looked at: the compiler warns where it is dropped (gcc also where it is cast to void).
 #if defined(__cplusplus) && __cplusplus >= 201703L
@@ -171,8 +171,8 @@ enum cuddystove_tag {
 };
 
 // The first byte of a node, the bytes after it, and what the node gives. Operands are numbers of nodes. A field, a map from some
-// devices to numbers, is what nbr and nbr-range give, an operator with a field on a side, and an if with fields for branches. All
-// else is a number. What has faded (above) is no longer heard.
+// devices to numbers, is what nbr, nbr-range and nbr-lag give, an operator with a field on a side, and an if with fields for branches.
+// All else is a number. What has faded (above) is no longer heard. nbr-lag gives ages as they are before the round adds 1 to them.
 enum cuddystove_kind {
     CUDDYSTOVE_CONSTANT = 0,  // four bytes, high byte first, not the mark: that number
     CUDDYSTOVE_PARAMETER = 1, // number 0 to 3: that argument of the call
@@ -186,7 +186,8 @@ enum cuddystove_kind {
     CUDDYSTOVE_NBR_RANGE = 9, // slot 1 to 15: sends 0; the field of the distances to devices heard with 0 in it that have a link
     CUDDYSTOVE_FOLD = 10,     // operator, initial, field: initial op first, op second and so on, lowest device first
     CUDDYSTOVE_FOLD_BY = 11,  // definition of two parameters, initial, field: the same by f(so far, next)
-    CUDDYSTOVE_CALL = 12      // definition, as many arguments as it has parameters: its body
+    CUDDYSTOVE_CALL = 12,     // definition, as many arguments as it has parameters: its body
+    CUDDYSTOVE_NBR_LAG = 13   // slot 1 to 15: sends 0; the field of the ages for devices heard with 0 in it, link or none
 };
 
 // Results are exact, then brought into floor..inf, but for what is said of inf. A comparison gives 1 or 0; to it inf is the largest
@@ -297,7 +298,8 @@ static inline size_t cuddystove_at_heard(int64_t a, int64_t b, int64_t i) {
     return i == 0 ? CUDDYSTOVE_NO_CELL : cuddystove_at_row(a, CUDDYSTOVE_FIRST_HEARD, b, i);
 }
 // The age of what a last heard from b: how many rounds a has completed since, 0 to 2; the mark where nothing was heard, where it has
-// faded, and for a itself. It is present where a slot heard from b is; of an empty message it is present without one.
+// faded, and for a itself. It is present where a slot heard from b is; of an empty message it is present without one. Programs read
+// it by nbr-lag.
 CUDDYSTOVE_LOOK
 static inline size_t cuddystove_at_age(int64_t a, int64_t b) {
     if (!cuddystove_within(a, 1, CUDDYSTOVE_DEVICES) || !cuddystove_within(b, 1, CUDDYSTOVE_DEVICES)) return CUDDYSTOVE_NO_CELL;

@@ -1,6 +1,6 @@
-// Every call on accepted and refused inputs, each refusal from 1 to 17, rounds with every kind of node, and ages. Each slice lies against
-// a page that cannot be touched, once at its end and once at its start, and what a call only reads cannot be written: a stray access
-// ends this program. It uses no heap and no stdio, so that valgrind counts the library's own allocations. Prints the cases that
+// Every call on accepted and refused inputs, each refusal from 1 to 17, rounds with every kind of node, ages and lags. Each slice lies
+// against a page that cannot be touched, once at its end and once at its start, and what a call only reads cannot be written: a stray
+// access ends this program. It uses no heap and no stdio, so that valgrind counts the library's own allocations. Prints the cases that
 // failed and 'N passed, M failed'.
 #define _GNU_SOURCE
 #include "cuddystove.h"
@@ -137,16 +137,21 @@ static void one_event(const char *what, const uint8_t *list, size_t length, int3
 }
 #define LIST(...) (const uint8_t[]){__VA_ARGS__}, sizeof((const uint8_t[]){__VA_ARGS__})
 #define EMPTY (const uint8_t *)"", 0
-#define BAD_TABLE(what, number, place, ...)                      \
-    do {                                                         \
-        static const uint8_t table[] = {__VA_ARGS__};            \
-        PROGRAM_IS(table);                                       \
-        fresh(2);                                                \
-        refused_call(what, CHECK, EMPTY, number, place);         \
-        refused_call(what, EVENT, LIST(FIRE(1)), number, place); \
-        refused_call(what, RUN, EMPTY, number, place);           \
-        refused_call(what, BOTH, LIST(9), number, place);        \
+static void refused_program(const char *what, uint32_t number, size_t place) {
+    fresh(2);
+    refused_call(what, CHECK, EMPTY, number, place);
+    refused_call(what, EVENT, LIST(FIRE(1)), number, place);
+    refused_call(what, RUN, EMPTY, number, place);
+    refused_call(what, BOTH, LIST(9), number, place);
+}
+#define BAD_TABLE(what, number, place, ...)           \
+    do {                                              \
+        static const uint8_t table[] = {__VA_ARGS__}; \
+        PROGRAM_IS(table);                            \
+        refused_program(what, number, place);         \
     } while (0)
+// To the end of `table`, which is `length` long.
+#define GROW(...) (memcpy(table + length, LIST(__VA_ARGS__)), length += sizeof((const uint8_t[]){__VA_ARGS__}))
 
 #define CONST(n) 1, 0, 5, CUDDYSTOVE_CONSTANT, BYTES(n)
 #define PARAMETER(p) 1, 0, 2, CUDDYSTOVE_PARAMETER, p
@@ -158,8 +163,10 @@ static void one_event(const char *what, const uint8_t *list, size_t length, int3
 #define MUX(condition, one, other) 1, 0, 4, CUDDYSTOVE_MUX, condition, one, other
 #define NBR(slot, child) 1, 0, 3, CUDDYSTOVE_NBR, slot, child
 #define RANGE(slot) 1, 0, 2, CUDDYSTOVE_NBR_RANGE, slot
+#define LAG(slot) 1, 0, 2, CUDDYSTOVE_NBR_LAG, slot
 #define FOLD(o, initial, field) 1, 0, 4, CUDDYSTOVE_FOLD, CUDDYSTOVE_##o, initial, field
 #define FOLD_BY(d, initial, field) 1, 0, 4, CUDDYSTOVE_FOLD_BY, d, initial, field
+#define CALL0(d) 1, 0, 2, CUDDYSTOVE_CALL, d
 #define CALL1(d, a) 1, 0, 3, CUDDYSTOVE_CALL, d, a
 #define CALL2(d, a, b) 1, 0, 4, CUDDYSTOVE_CALL, d, a, b
 #define CALL4(d, a, b, c, e) 1, 0, 6, CUDDYSTOVE_CALL, d, a, b, c, e
@@ -245,6 +252,29 @@ static const uint8_t initial_again[] = {
     CONST(6), CONST(1), SENSE(1), OPERATOR(DIVIDE, 0, 2), VARIABLE(0), CONST(1), OPERATOR(PLUS, 4, 5), REP(0, 3, 6), MAIN(7),
 };
 
+// (fold-hood* + 0 (* (nbr 1) (+ 5 (nbr-lag)))), by slots 2 and 4
+static const uint8_t lags[] = {
+    CONST(0), CONST(1), NBR(2, 1), CONST(5), LAG(4), OPERATOR(PLUS, 3, 4), OPERATOR(TIMES, 2, 5), FOLD(PLUS, 0, 6), MAIN(7),
+};
+// (fold-hood* + 100 (+ 5 (nbr-lag))), by slot 3: 5 and its age for each device heard
+static const uint8_t late[] = {CONST(100), CONST(5), LAG(3), OPERATOR(PLUS, 1, 2), FOLD(PLUS, 0, 3), MAIN(4)};
+// (fold-hood* min inf (+ (nbr-range) (* 25 (nbr-lag)))), by slots 1 and 2
+static const uint8_t nearest[] = {
+    PARAMETER(0), PARAMETER(1), OPERATOR(LESS, 0, 1), PARAMETER(0), PARAMETER(1), IF(2, 3, 4), DEFINITION(2, 5), //  0 to 5
+    CONST(CUDDYSTOVE_INF), RANGE(1), CONST(25), LAG(2), OPERATOR(TIMES, 8, 9), OPERATOR(PLUS, 7, 10),            //  6 to 11
+    FOLD_BY(0, 6, 11), MAIN(12),
+};
+// (fold-hood* + 0 (if (sense 1) (nbr-lag) (nbr-range))), by slots 1 and 15
+static const uint8_t lag_or_range[] = {
+    CONST(0), CONST(1), SENSE(1), LAG(1), RANGE(15), IF(2, 3, 4), FOLD(PLUS, 0, 5), MAIN(6),
+};
+// (mux (sense 1) 7 (fold-hood* + 0 (nbr-lag))), by slot 9
+static const uint8_t lag_aside[] = {
+    CONST(1), SENSE(0), CONST(7), CONST(0), LAG(9), FOLD(PLUS, 3, 4), MUX(1, 2, 5), MAIN(6),
+};
+// (fold-hood* + 0 (/ 6 (nbr-lag)))
+static const uint8_t over_lag[] = {CONST(0), CONST(6), LAG(1), OPERATOR(DIVIDE, 1, 2), FOLD(PLUS, 0, 3), MAIN(4)};
+
 static void programs(void) {
     static uint8_t many[257 * 5 + 20];
     size_t length = 0;
@@ -260,7 +290,7 @@ static void programs(void) {
     refused_call("empty table", CHECK, EMPTY, 6, 0);
     refused_call("empty table", RUN, EMPTY, 6, 0);
     BAD_TABLE("1", 1, 0, 9, 0, 0);
-    BAD_TABLE("3", 3, 0, 1, 0, 1, 13);
+    BAD_TABLE("3", 3, 0, 1, 0, 1, 14);
     BAD_TABLE("4", 4, 0, 1, 0, 2, CUDDYSTOVE_SENSE, 0);
     BAD_TABLE("5", 5, 2, CONST(1), 1, 0, 2, CUDDYSTOVE_SENSE, 0, 1, 0, 2, CUDDYSTOVE_SENSE, 0);
     BAD_TABLE("6", 6, 0, CONST(1));
@@ -294,6 +324,95 @@ static void programs(void) {
     program_length = length;
     refused_call("10", CHECK, EMPTY, 10, 0);
     refused_call("10", EVENT, LIST(FIRE(1)), 10, 0);
+}
+
+// Each refusal of a node that is nbr-lag, up to 6, and of kinds beyond it; 2 comes next, and 4 it can't get: it names no node.
+static void lag_nodes_refused(void) {
+    BAD_TABLE("nbr-lag: no slot", 1, 0, 1, 0, 1, CUDDYSTOVE_NBR_LAG);
+    BAD_TABLE("nbr-lag: a child", 1, 1, CONST(0), 1, 0, 3, CUDDYSTOVE_NBR_LAG, 1, 0);
+    BAD_TABLE("nbr-lag: cut short", 1, 0, 1, 0, 2, CUDDYSTOVE_NBR_LAG);
+    BAD_TABLE("nbr-lag: its length before its slot", 1, 0, 1, 0, 3, CUDDYSTOVE_NBR_LAG, 0, 0);
+    BAD_TABLE("nbr-lag: kind 14 before its length", 3, 0, 1, 0, 3, 14, 1, 0);
+    BAD_TABLE("nbr-lag: kind 14 after it", 3, 1, LAG(1), 1, 0, 2, 14, 2);
+    BAD_TABLE("nbr-lag: kind 255 after it", 3, 1, LAG(1), 1, 0, 2, 255, 2);
+    BAD_TABLE("nbr-lag: slot 0", 3, 0, LAG(0));
+    BAD_TABLE("nbr-lag: slot 16", 3, 1, LAG(15), LAG(16));
+    BAD_TABLE("nbr-lag: slot 17", 3, 1, LAG(15), LAG(17));
+    BAD_TABLE("nbr-lag: slot 255", 3, 0, LAG(255));
+    BAD_TABLE("nbr-lag: twice by one slot", 5, 1, LAG(1), LAG(1));
+    BAD_TABLE("nbr-lag: by nbr-range's slot", 5, 1, RANGE(15), LAG(15));
+    BAD_TABLE("nbr-lag: nbr-range by its slot", 5, 1, LAG(15), RANGE(15));
+    BAD_TABLE("nbr-lag: by nbr's slot", 5, 2, CONST(0), NBR(7, 0), LAG(7));
+    BAD_TABLE("nbr-lag: nbr by its slot", 5, 2, LAG(7), CONST(0), NBR(7, 1));
+    BAD_TABLE("nbr-lag: named twice", 5, 1, LAG(1), OPERATOR(PLUS, 0, 0));
+    BAD_TABLE("nbr-lag: nothing names it", 6, 0, CONST(0), LAG(1), MAIN(0));
+}
+// As the 257th node it is one too many, before its length and slot are looked at.
+static void lag_after_256_nodes(void) {
+    static uint8_t table[CUDDYSTOVE_NODES * 5 + 20];
+    size_t length = 0;
+    GROW(CONST(1));
+    for (int n = 1; n < CUDDYSTOVE_NODES; n++) GROW(SENSE((uint8_t)(n - 1)));
+    const size_t full = length;
+    program = table;
+    GROW(LAG(1));
+    program_length = length;
+    refused_program("nbr-lag: the 257th node", 2, CUDDYSTOVE_NODES);
+    length = full;
+    GROW(LAG(0));
+    program_length = length;
+    refused_program("nbr-lag: the 257th node, slot 0", 2, CUDDYSTOVE_NODES);
+    length = full;
+    GROW(1, 0, 1, CUDDYSTOVE_NBR_LAG);
+    program_length = length;
+    refused_program("nbr-lag: the 257th node, no slot", 2, CUDDYSTOVE_NODES);
+}
+// A field where a number belongs (7), and spatial definitions (9).
+static void lags_misplaced(void) {
+    BAD_TABLE("nbr-lag: main", 7, 0, LAG(1), MAIN(0));
+    BAD_TABLE("nbr-lag: a definition's body", 7, 0, LAG(1), DEFINITION(0, 0), CONST(0), MAIN(1));
+    BAD_TABLE("nbr-lag: sense of it", 7, 1, LAG(1), SENSE(0), MAIN(1));
+    BAD_TABLE("nbr-lag: a sum of it and a number", 7, 2, LAG(1), CONST(0), OPERATOR(PLUS, 0, 1), MAIN(2));
+    BAD_TABLE("nbr-lag: nbr of it", 7, 1, LAG(1), NBR(2, 0), CONST(0), FOLD(PLUS, 2, 1), MAIN(3));
+    BAD_TABLE("nbr-lag: the initial part of a rep", 7, 2, LAG(1), CONST(0), REP(0, 0, 1), MAIN(2));
+    BAD_TABLE("nbr-lag: the update of a rep", 7, 2, CONST(0), LAG(1), REP(0, 0, 1), MAIN(2));
+    BAD_TABLE("nbr-lag: the condition of an if", 7, 3, LAG(1), CONST(0), CONST(0), IF(0, 1, 2), MAIN(3));
+    BAD_TABLE("nbr-lag: then of an if", 7, 3, CONST(0), LAG(1), CONST(0), IF(0, 1, 2), MAIN(3));
+    BAD_TABLE("nbr-lag: else of an if", 7, 3, CONST(0), CONST(0), LAG(1), IF(0, 1, 2), MAIN(3));
+    BAD_TABLE("nbr-lag: the condition of a mux", 7, 3, LAG(1), CONST(0), CONST(0), MUX(0, 1, 2), MAIN(3));
+    BAD_TABLE("nbr-lag: then of a mux", 7, 3, CONST(0), LAG(1), CONST(0), MUX(0, 1, 2), MAIN(3));
+    BAD_TABLE("nbr-lag: else of a mux", 7, 3, CONST(0), CONST(0), LAG(1), MUX(0, 1, 2), MAIN(3));
+    BAD_TABLE("nbr-lag: a fold's initial part", 7, 2, LAG(1), LAG(2), FOLD(PLUS, 0, 1), MAIN(2));
+    BAD_TABLE("nbr-lag: the initial part of a fold by definition", 7, 3, PARAMETER(0), DEFINITION(2, 0), LAG(1), LAG(2),
+              FOLD_BY(0, 1, 2), MAIN(3));
+    BAD_TABLE("nbr-lag: an argument", 7, 2, PARAMETER(0), DEFINITION(1, 0), LAG(1), CALL1(0, 1), MAIN(2));
+#define SUM_OF_LAGS CONST(0), LAG(1), FOLD(PLUS, 0, 1), DEFINITION(0, 2)
+    BAD_TABLE("nbr-lag: its definition called twice", 9, 4, SUM_OF_LAGS, CALL0(0), CALL0(0), OPERATOR(PLUS, 3, 4), MAIN(5));
+    BAD_TABLE("nbr-lag: its definition called by one that is called twice", 9, 5, SUM_OF_LAGS, CALL0(0), DEFINITION(0, 3), CALL0(1),
+              CALL0(1), OPERATOR(PLUS, 4, 5), MAIN(6));
+    BAD_TABLE("nbr-lag: folded by its definition", 9, 5, PARAMETER(0), LAG(1), FOLD(PLUS, 0, 1), DEFINITION(2, 2), CONST(0), LAG(2),
+              FOLD_BY(0, 3, 4), MAIN(5));
+}
+// nbr-lag costs 1: a main that folds it costs 1,000,000 and passes, and one with a sense around it does not.
+static void lag_costs_1(void) {
+    static const uint8_t called[] = {17, 16, 15, 14, 12, 7, 4}; // a call of definition d, added, costs 2^(d + 2) - 1
+    static uint8_t table[600];
+    size_t length = 0;
+    uint8_t n = 0; // the last node
+    GROW(CONST(1), DEFINITION(0, 0));
+    for (uint8_t d = 0; d < 17; d++, n += 3) GROW(CALL0(d), CALL0(d), OPERATOR(PLUS, n + 1, n + 2), DEFINITION(0, n + 3));
+    GROW(CONST(0), LAG(1), FOLD(PLUS, n + 1, n + 2)), n += 3;
+    for (size_t i = 0; i < sizeof called; i++, n += 2) GROW(CALL0(called[i]), OPERATOR(PLUS, n, n + 1));
+    for (int i = 0; i < 2; i++, n += 2) GROW(CONST(0), OPERATOR(PLUS, n, n + 1));
+    GROW(MAIN(n));
+    fresh(2);
+    program = table;
+    program_length = length;
+    expect("a cost of 1,000,000", CHECK, EMPTY, 0, 0);
+    length -= 4;
+    GROW(SENSE(n), MAIN(n + 1));
+    program_length = length;
+    refused_call("a cost of 1,000,001", CHECK, EMPTY, 10, 0);
 }
 
 // A network that is fresh but for this number in this cell.
@@ -482,7 +601,7 @@ static void events(void) {
     one_event("rep, second", LIST(FIRE(16)), 0, 1);
 }
 
-// ---- Rounds of devices that have heard others, worked out from 01 and L1
+// ---- Rounds of devices that have heard others, worked out from 01, L1 and L2
 
 // A fire of a: what was pending goes, and each b with a link from a gets a message, as yet without slots.
 static void message(int a) {
@@ -892,20 +1011,20 @@ static void each_age(void) {
         }
     }
 }
-// As one list; and in another order, in which events that clash keep theirs: the ages end equal too.
-static void ages_in_lists(void) {
+// As one list; and in another order, in which events that clash keep theirs: the ages end equal too. The program sends a number in slot 3.
+static void ages_in_lists(const uint8_t *table, size_t length, int32_t sent, const int32_t *values1, const int32_t *values2) {
     static const uint8_t one[] = {LINK(1, 2, 10), LINK(3, 2, 20), FIRE(1),       FIRE(3), DELIVER(1, 2),
                                   FIRE(2),        FIRE(1),        DELIVER(3, 2), FIRE(2), FIRE(2)};
     static const uint8_t two[] = {LINK(3, 2, 20), FIRE(3), LINK(1, 2, 10), FIRE(1), DELIVER(1, 2),
                                   FIRE(1),        FIRE(2), DELIVER(3, 2),  FIRE(2), FIRE(2)};
-    static const int32_t values1[] = {0, 0, 100, 100, 0, 105, 100, 0, 110, 110}, values2[] = {0, 100, 0, 100, 0, 100, 105, 0, 110, 110};
-    PROGRAM_IS(gossip);
+    program = table;
+    program_length = length;
     fresh(20);
     after[cuddystove_at_distance(1, 2)] = 10;
     after[cuddystove_at_distance(3, 2)] = 20;
     after[cuddystove_at_is_pending(1, 2)] = 1; // of its second round
-    after[cuddystove_at_pending(1, 2, 3)] = 5;
-    after[cuddystove_at_heard(2, 3, 3)] = 5; // three rounds of 2 have read what 1 sent first, two what 3 sent
+    after[cuddystove_at_pending(1, 2, 3)] = sent;
+    after[cuddystove_at_heard(2, 3, 3)] = sent; // three rounds of 2 have read what 1 sent first, two what 3 sent
     after[cuddystove_at_age(2, 3)] = 2;
     for (int k = 0; k < 10; k++) answer(k, 0, values1[k]);
     expect("ages in a list", RUN, one, sizeof one, 0, 0);
@@ -913,10 +1032,115 @@ static void ages_in_lists(void) {
     expect("ages in a list of another order", RUN, two, sizeof two, 0, 0);
     int32_t *n1 = lend(NETWORK, network, 4 * CUDDYSTOVE_CELLS, LAST), *n2 = lend(NETWORK2, network, 4 * CUDDYSTOVE_CELLS, LAST);
     int32_t *s1 = lend(SPACE, space, 80, LAST), *s2 = lend(SPACE2, space, 80, LAST);
-    struct cuddystove_verdicts v = cuddystove_run_both(gossip, sizeof gossip, n1, CUDDYSTOVE_CELLS, n2, CUDDYSTOVE_CELLS, one, sizeof one,
-                                                       two, sizeof two, s1, 20, s2, 20);
+    struct cuddystove_verdicts v =
+        cuddystove_run_both(table, length, n1, CUDDYSTOVE_CELLS, n2, CUDDYSTOVE_CELLS, one, sizeof one, two, sizeof two, s1, 20, s2, 20);
     judge("ages in two orders", v.number1 == 0 && v.number2 == 0 && memcmp(n1, after, 4 * CUDDYSTOVE_CELLS) == 0 &&
                                     memcmp(n2, after, 4 * CUDDYSTOVE_CELLS) == 0 && memcmp(s2, answered, 80) == 0);
+}
+
+// What was heard, and how long ago.
+static void ages_in_two_orders(void) {
+    static const int32_t heard1[] = {0, 0, 100, 100, 0, 105, 100, 0, 110, 110}, heard2[] = {0, 100, 0, 100, 0, 100, 105, 0, 110, 110};
+    static const int32_t lags1[] = {0, 0, 100, 100, 0, 105, 100, 0, 106 + 5, 107 + 6}, lags2[] = {0, 100, 0, 100, 0, 100, 105, 0, 111, 113};
+    ages_in_lists(gossip, sizeof gossip, 5, heard1, heard2);
+    ages_in_lists(late, sizeof late, 0, lags1, lags2);
+}
+
+// ---- Lags: ages as nbr-lag gives them
+
+// Those heard with 0 in its slot are in the field, link or none. Each device has a digit: 5 and its age, 0 where it is not in the field.
+static void lags_of_whom(void) {
+    static const uint8_t digits[] = {1, 3, 16, 7, 10, 5, 9};
+    PROGRAM_IS(lags);
+    fresh(2);
+    linked(8, 1, 40), linked(8, 7, 9), linked(8, 9, 0), linked(8, 11, 5);
+    for (int32_t i = 0, digit = 1; i < 7; i++, digit *= 10) heard(8, digits[i], 2, digit);
+    heard(8, 1, 4, 0), heard(8, 3, 4, 0), heard(8, 16, 4, 0);                 // of these 1 alone has a link
+    heard(8, 7, 4, 5), heard(8, 10, 4, CUDDYSTOVE_FLOOR), heard(8, 5, 3, 0);  // not with 0, or in another slot; 9 in neither
+    network[cuddystove_at_age(8, 3)] = network[cuddystove_at_age(8, 12)] = 1; // 12: of an empty message
+    network[cuddystove_at_age(8, 16)] = 2;
+    same();
+    static const int32_t values[] = {765, 76, 7, 0};
+    for (int round = 0; round < 4; round++) {
+        message(8), sends(8, 2, 1), sends(8, 4, 0);
+        fires("lags of 0, 1 and 2, with a link and without", 8, values[round]);
+    }
+    // All fifteen others, of ages 0, 1 and 2, five each; no link.
+    PROGRAM_IS(late);
+    for (int a = 1; a <= CUDDYSTOVE_DEVICES; a += CUDDYSTOVE_DEVICES - 1) {
+        fresh(2);
+        for (int b = 1; b <= CUDDYSTOVE_DEVICES; b++) {
+            if (b != a) heard(a, b, 3, 0), network[there(cuddystove_at_age(a, b))] = b % 3;
+        }
+        same();
+        fires("lags of fifteen", a, 100 + 15 * 5 + 5 * (0 + 1 + 2));
+    }
+}
+// From the receipt on: 0, and 1 more with each round of the hearer; after the third it is gone. A fault between them counts for nothing.
+static void lag_grows(void) {
+    PROGRAM_IS(late);
+    fresh(2);
+    linked(2, 9, 40); // and no link from 9 to 2
+    same();
+    for (int32_t rounds = 3; rounds > 0; rounds--) { // the receipts after the first come where it is gone, and where it is 2
+        message(2), sends(2, 3, 0);
+        fires("nbr-lag sends 0", 2, 100);
+        arrives("2 is heard", 2, 9);
+        for (int32_t lag = 0; lag < rounds; lag++) {
+            fires("a lag", 9, 105 + lag);
+            PROGRAM_IS(divides);
+            faults("a fault before the next lag", 9, 2);
+            PROGRAM_IS(late);
+        }
+        if (rounds == 3) fires("nobody is heard", 9, 100);
+    }
+}
+// The nearer of two counts as 25 farther for each round since it was heard: it is passed over, and taken again when it is heard anew.
+static void lag_weighs(void) {
+    static const struct { int hears1, hears2; int32_t value; } rounds[] = {
+        {1, 1, 30}, {0, 1, 50}, {1, 1, 30}, {0, 1, 50}, {0, 1, 50}, {1, 1, 30}, {0, 0, 55}, {0, 0, 80}, {0, 0, CUDDYSTOVE_INF}, {1, 0, 30}};
+    PROGRAM_IS(nearest);
+    fresh(2);
+    linked(3, 1, 30), linked(3, 2, 50);
+    for (size_t i = 0; i < sizeof rounds / sizeof rounds[0]; i++) {
+        if (rounds[i].hears1) heard(3, 1, 1, 0), heard(3, 1, 2, 0);
+        if (rounds[i].hears2) heard(3, 2, 1, 0), heard(3, 2, 2, 0);
+        same();
+        message(3), sends(3, 1, 0), sends(3, 2, 0);
+        fires("the nearer, or the one just heard", 3, rounds[i].value);
+    }
+    // Without a link 1 has no range, so it is in no sum of range and lag.
+    linked(3, 1, CUDDYSTOVE_MARK);
+    same();
+    message(3), sends(3, 1, 0), sends(3, 2, 0);
+    fires("no link, no range", 3, CUDDYSTOVE_INF);
+}
+// What is not evaluated sends nothing: an if evaluates one branch, a mux both. And lags as divisors.
+static void lag_in_branches(void) {
+    PROGRAM_IS(lag_or_range);
+    fresh(2);
+    linked(6, 1, 40);
+    heard(6, 1, 1, 0), heard(6, 1, 15, 0), heard(6, 4, 1, 0), heard(6, 4, 15, 0);
+    network[cuddystove_at_age(6, 4)] = 1;
+    same();
+    message(6), sends(6, 15, 0);
+    fires("if, nbr-range: 40, and 4 has no link", 6, 40);
+    arrives("the slot of nbr-lag is not sent", 6, 1);
+    senses(6, 1 << 1);
+    message(6), sends(6, 1, 0);
+    fires("if, nbr-lag: 1 and 2", 6, 3);
+    arrives("the slot of nbr-range is not sent", 6, 1);
+    PROGRAM_IS(lag_aside);
+    message(6), sends(6, 9, 0);
+    fires("mux, the other side sends", 6, 7);
+    PROGRAM_IS(over_lag);
+    fresh(2);
+    heard(6, 1, 1, 0);
+    faults("a lag of 0 divides", 6, 3);
+    faults("and does so again, as a fault ages nothing", 6, 3);
+    network[cuddystove_at_age(6, 1)] = 2;
+    same();
+    fires("a lag of 2 divides", 6, 3);
 }
 
 // The program is one operator on two constants.
@@ -1025,6 +1249,10 @@ static void orders(void) {
 int main(void) {
     make_rooms();
     programs();
+    lag_nodes_refused();
+    lag_after_256_nodes();
+    lags_misplaced();
+    lag_costs_1();
     networks();
     networks_of_ages();
     lowest_of_ages();
@@ -1037,7 +1265,11 @@ int main(void) {
     heard_anew();
     empty_message();
     each_age();
-    ages_in_lists();
+    ages_in_two_orders();
+    lags_of_whom();
+    lag_grows();
+    lag_weighs();
+    lag_in_branches();
     operators();
     orders();
     say_number(passed);

@@ -13,6 +13,8 @@ enum spoil {
     KEEPS_THE_AGES,           // event: a fire ages nothing
     AGES_A_FAULT,             // event: a fire that divides by 0 ages too
     FADES_THE_DISTANCE,       // event: with the slots of a sender
+    AGES_BEFORE_READING,      // event: a fire's nbr-lag gives what the ages are after it
+    LAG_AS_RANGE,             // event: nbr-lag is nbr-range
     WRITES_BEYOND_SPACE,      // run
     WRITES_THE_PROGRAM,       // run: the byte that was there
     WRONG_PLACE,              // run: of a refusal
@@ -56,13 +58,45 @@ static void spoil_age(int32_t *network, const int32_t *kept, int a, int b, uint8
     if (SPOIL == FADES_THE_DISTANCE && had && !has) network[cuddystove_at_distance(a, b)] = CUDDYSTOVE_MARK;
 }
 
+// Before a fire of a, ages of 0 and 1 get 1 more; after it they and the slots beside them are as the fire should leave them, which has
+// added `added`. So nothing but nbr-lag has seen it.
+static void age_early(int32_t *network, int a) {
+    for (int b = 1; b <= CUDDYSTOVE_DEVICES; b++) {
+        const size_t age = cuddystove_at_age(a, b);
+        if (network[age] == 0 || network[age] == 1) network[age]++;
+    }
+}
+static void as_it_should_be(int32_t *network, const int32_t *kept, int a, int32_t added) {
+    for (int b = 1; b <= CUDDYSTOVE_DEVICES; b++) {
+        const size_t age = cuddystove_at_age(a, b), slots = cuddystove_at_heard(a, b, 1);
+        if (kept[age] != 0 && kept[age] != 1) continue;
+        network[age] = kept[age] + added;
+        memcpy(network + slots, kept + slots, 4 * (CUDDYSTOVE_ROW - 1));
+    }
+}
+
+// The program with nbr-range for each nbr-lag; their bodies have one form.
+static const uint8_t *with_ranges(PROGRAM) {
+    static uint8_t changed[2048];
+    if (program_length == 0 || program_length > sizeof changed) return program;
+    memcpy(changed, program, program_length);
+    for (size_t at = 0; at + 3 < program_length; at += 3 + 256u * changed[at + 1] + changed[at + 2])
+        if (changed[at] == CUDDYSTOVE_TAG_NODE && changed[at + 3] == CUDDYSTOVE_NBR_LAG) changed[at + 3] = CUDDYSTOVE_NBR_RANGE;
+    return changed;
+}
+
 struct cuddystove_verdict __wrap_cuddystove_event(PROGRAM, REST) {
     static int32_t kept[CUDDYSTOVE_CELLS];
     const int whole = network_length == CUDDYSTOVE_CELLS;
+    const int fires = SPOIL == AGES_BEFORE_READING && whole && list_length == 4 && list[0] == CUDDYSTOVE_TAG_FIRE &&
+                      cuddystove_within(list[3], 1, CUDDYSTOVE_DEVICES);
     struct cuddystove_verdict v;
     if (whole) memcpy(kept, network, sizeof kept);
     if (SPOIL == READS_BEFORE_LIST) look(list - 1);
+    if (fires) age_early(network, list[3]);
+    if (SPOIL == LAG_AS_RANGE) program = with_ranges(program, program_length);
     v = __real_cuddystove_event(program, program_length, network, network_length, list, list_length, space, space_length);
+    if (fires) as_it_should_be(network, kept, list[3], v.number == 0 && space[0] == 0);
     for (int a = 1; SPOIL == NEVER_STORES && whole && a <= CUDDYSTOVE_DEVICES; a++)
         memcpy(network + cuddystove_at_variable(a, 0), kept + cuddystove_at_variable(a, 0), 4 * CUDDYSTOVE_VARIABLES);
     if (SPOIL == WRITES_A_CELL && whole && v.number == 0) network[cuddystove_at_heard(13, 12, 11)] = 0;

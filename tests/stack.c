@@ -132,12 +132,12 @@ static void fold_by(void) {
     end(NODE(CUDDYSTOVE_CALL, definitions - 1));
 }
 
-// A fold of a chain of field operators, at the bottom of calls through that many definitions: each device's range and a 1 a level.
-static void fields(int through, int right) {
+// A fold of a chain of field operators, at the bottom of calls through that many definitions: each device's range or lag and a 1 a level.
+static void fields(int kind, int through, int right) {
     int initial, field, node, levels = (CUDDYSTOVE_NODES - 3 - through) / 2;
     start();
     initial = constant(0);
-    field = NODE(CUDDYSTOVE_NBR_RANGE, 1);
+    field = NODE(kind, 1);
     for (int i = 0; i < levels; i++) {
         int one = constant(1);
         field = plus(right ? one : field, right ? field : one);
@@ -205,7 +205,8 @@ static void *fresh(void *unused) {
     return unused;
 }
 
-// Device 1 with sensor 1 lit, every variable 1, and each other device at 10, just heard with 0 in slot 1: folds go over fifteen devices.
+// Device 1 with sensor 1 lit, every variable 1, and each other device at 10, heard two rounds ago with 0 in slot 1: folds go over fifteen
+// devices, of lag 2, and the round lets them all fade.
 static void prepare(int32_t *cells) {
     if (cuddystove_fresh(cells, CUDDYSTOVE_CELLS).number != CUDDYSTOVE_DONE) exit(1);
     cells[cuddystove_at_sensors(1)] = 1 << 1;
@@ -213,7 +214,7 @@ static void prepare(int32_t *cells) {
     for (int b = 2; b <= CUDDYSTOVE_DEVICES; b++) {
         cells[cuddystove_at_distance(1, b)] = 10;
         cells[cuddystove_at_heard(1, b, 1)] = 0;
-        cells[cuddystove_at_age(1, b)] = 0;
+        cells[cuddystove_at_age(1, b)] = CUDDYSTOVE_OLDEST;
     }
 }
 
@@ -266,6 +267,20 @@ static void expect(const char *what, void *(*work)(void *), uint32_t number, siz
     else failed++;
 }
 
+// A fold over fifteen devices, each with `each` in the field at the bottom and a 1 a sum.
+static void over_fields(const char *of, int kind, int32_t each) {
+    printf("fields by %s:\n", of);
+    fields(kind, 0, 0);
+    expect("check, 126 sums of fields in a fold, nested left", check, 0, 0, 0);
+    expect("event, 126 sums of fields in a fold, nested left", event, 0, 0, 15 * (each + 126));
+    fields(kind, 0, 1);
+    expect("event, 126 sums of fields in a fold, nested right", event, 0, 0, 15 * (each + 126));
+    fields(kind, 32, 0);
+    expect("event, 110 sums of fields in a fold, below calls through 32 definitions", event, 0, 0, 15 * (each + 110));
+    expect("run, the same", run, 0, 0, 15 * (each + 110));
+    expect("run_both, the same", run_both, 0, 0, 15 * (each + 110));
+}
+
 int main(void) {
     idle = used(nothing);
     chain(256);
@@ -307,15 +322,8 @@ int main(void) {
     fold_by();
     expect("check, calls through 31 definitions to a fold by definition, 221 senses in its body", check, 0, 0, 0);
     expect("event, calls through 31 definitions to a fold by definition, 221 senses in its body", event, 0, 0, 0);
-    fields(0, 0);
-    expect("check, 126 sums of fields in a fold, nested left", check, 0, 0, 0);
-    expect("event, 126 sums of fields in a fold, nested left", event, 0, 0, 15 * 136);
-    fields(0, 1);
-    expect("event, 126 sums of fields in a fold, nested right", event, 0, 0, 15 * 136);
-    fields(32, 0);
-    expect("event, 110 sums of fields in a fold, below calls through 32 definitions", event, 0, 0, 15 * 120);
-    expect("run, the same", run, 0, 0, 15 * 120);
-    expect("run_both, the same", run_both, 0, 0, 15 * 120);
+    over_fields("nbr-range", CUDDYSTOVE_NBR_RANGE, 10);
+    over_fields("nbr-lag", CUDDYSTOVE_NBR_LAG, CUDDYSTOVE_OLDEST);
     folds();
     expect("event, 15 folds, each in the nbr of the next, of 6 sums each", event, 0, 0, 1);
     expect("fresh", fresh, 0, 0, 0);

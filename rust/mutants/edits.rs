@@ -1,3 +1,51 @@
+/// Whether `definition` is spatial, but for its nbr-lags; then the expression.
+macro_rules! spatial_but_for_lag {
+    ($then:literal) => {
+        concat!(
+            "let mut spatial = false;
+            definition.body.walk(&mut |node| spatial |= match &node.form {
+                Form::Rep { .. } | Form::Nbr { .. } | Form::NbrRange { .. } => true,
+                Form::Call { definition, .. } => definition.spatial,
+                _ => false,
+            });
+            ",
+            $then
+        )
+    };
+}
+
+/// Whether a node is a field, but for an nbr-lag right under a node of this form.
+macro_rules! field_but_lag_under {
+    ($form:literal) => {
+        concat!("node.sort == Sort::Field && !matches!((&self.form, &node.form), (Form::", $form, " { .. }, Form::NbrLag { .. }))")
+    };
+}
+
+/// Whether `slot` is that of an nbr-lag somewhere in this tree or program, as it shows itself.
+macro_rules! of_a_lag_in {
+    ($tree:literal) => {
+        concat!(r#"format!("{:?}", "#, $tree, r#").contains(&format!("NbrLag {{ slot: {slot} }}"))"#)
+    };
+}
+
+/// Does this with `left` of each sender that an nbr-lag of the round took, before the round's end.
+macro_rules! of_who_lag_takes {
+    ($does:literal) => {
+        concat!(
+            "for (b, message) in &device.heard {
+                let lag = |slot: &u8| outcome.sent.contains_key(slot) && ",
+            of_a_lag_in!("program"),
+            ";
+                let left = device.readings.get_mut(b).unwrap();
+                if message.iter().any(|(slot, number)| *number == 0 && lag(slot)) { ",
+            $does,
+            " }
+            }
+            device.fade();"
+        )
+    };
+}
+
 /// The bugs: name, file of the second engine, its text with the part « » that is replaced, what replaces it.
 /// A part is an expression, or statements (with a `;`) that leave no name behind.
 const EDITS: &[(&str, &str, &str, &str)] = &[
@@ -299,7 +347,7 @@ const EDITS: &[(&str, &str, &str, &str)] = &[
     ("the first of two calls is named", "tree.rs", "«offending.extend(callers.iter().skip(1));»", "if callers.len() > 1 { offending.extend(callers.first()); }"),
     ("no definition may be called twice", "tree.rs", "Form::Call { definition, .. } if «definition.spatial»", "true"),
     ("spatial does not go through calls", "tree.rs", "Form::Call { definition, .. } => «definition.spatial»", "false"),
-    ("rep does not make spatial", "tree.rs", "Form::NbrRange { .. } => «true»", "!matches!(&node.form, Form::Rep { .. })"),
+    ("rep does not make spatial", "tree.rs", "Form::NbrLag { .. } => «true»", "!matches!(&node.form, Form::Rep { .. })"),
     ("folds by spatial definitions pass", "tree.rs", "if «definition.spatial || definition.parameters != 2»", "definition.parameters != 2"),
     ("folds by three parameters pass", "tree.rs", "if «definition.spatial || definition.parameters != 2»", "definition.spatial || definition.parameters < 2"),
     ("cost 1,000,000 is too much", "tree.rs", "if «self.main.cost() > COST»", "self.main.cost() >= COST"),
@@ -364,8 +412,8 @@ const EDITS: &[(&str, &str, &str, &str)] = &[
     ("a new distance drops the message", "event.rs", "«network.device(a).distances.insert(b, distance);»", "network.device(a).distances.insert(b, distance); network.device(a).pending.remove(&b);"),
     ("a run refuses the empty list", "lib.rs", "if «answers.len() < 2 * events.len()»", "answers.len() < 2 * events.len().max(1)"),
     // More of the table and trees.
-    ("nbr does not make spatial", "tree.rs", "Form::NbrRange { .. } => «true»", "!matches!(&node.form, Form::Nbr { .. })"),
-    ("nbr-range does not make spatial", "tree.rs", "Form::NbrRange { .. } => «true»", "!matches!(&node.form, Form::NbrRange { .. })"),
+    ("nbr does not make spatial", "tree.rs", "Form::NbrLag { .. } => «true»", "!matches!(&node.form, Form::Nbr { .. })"),
+    ("nbr-range does not make spatial", "tree.rs", "Form::NbrLag { .. } => «true»", "!matches!(&node.form, Form::NbrRange { .. })"),
     ("folds by one parameter pass", "tree.rs", "if «definition.spatial || definition.parameters != 2»", "definition.spatial || definition.parameters != 2 && definition.parameters != 1"),
     ("main may read parameters", "tree.rs", "bodies.chain([(«0», &self.main)])", "4"),
     ("variables are read in any tree", "tree.rs", "tree.misreads(parameters, &«BTreeSet::new()», &mut offending);", "self.trees().iter().flat_map(|(_, tree)| { let mut v = BTreeSet::new(); tree.rep_variables(&mut v); v }).filter(|_| tree.number != self.main.number).collect()"),
@@ -397,7 +445,7 @@ const EDITS: &[(&str, &str, &str, &str)] = &[
         "if «definition.spatial || definition.parameters != 2»",
         "let mut spatial = false;
         definition.body.walk(&mut |node| spatial |= match &node.form {
-            Form::Nbr { .. } | Form::NbrRange { .. } => true,
+            Form::Nbr { .. } | Form::NbrRange { .. } | Form::NbrLag { .. } => true,
             Form::Call { definition, .. } => definition.spatial,
             _ => false,
         });
@@ -408,7 +456,7 @@ const EDITS: &[(&str, &str, &str, &str)] = &[
         "tree.rs",
         "if «definition.spatial || definition.parameters != 2»",
         "let mut spatial = false;
-        definition.body.walk(&mut |node| spatial |= matches!(&node.form, Form::Rep { .. } | Form::Nbr { .. } | Form::NbrRange { .. }));
+        definition.body.walk(&mut |node| spatial |= matches!(&node.form, Form::Rep { .. } | Form::Nbr { .. } | Form::NbrRange { .. } | Form::NbrLag { .. }));
         spatial || definition.parameters != 2",
     ),
     ("cost wraps in 31 bits", "tree.rs", "if «self.main.cost() > COST»", "self.main.cost() % (1 << 31) > COST"),
@@ -634,6 +682,273 @@ const EDITS: &[(&str, &str, &str, &str)] = &[
     ),
     ("a network without ages is sound", "network.rs", "if «cells.len() != CELLS» {", "cells.len() != CELLS && cells.len() != 8_464"),
     ("fresh takes a network without ages", "lib.rs", "«network.len() != network::CELLS»", "network.len() != network::CELLS && network.len() != 8_464"),
+    // nbr-lag: whom it takes.
+    ("nbr-lag asks for a link", "round.rs", "«message.get(&slot) == Some(&0)»", "message.get(&slot) == Some(&0) && self.device.distances.contains_key(b)"),
+    ("nbr-lag asks that there be no link", "round.rs", "«message.get(&slot) == Some(&0)»", "message.get(&slot) == Some(&0) && !self.device.distances.contains_key(b)"),
+    ("nbr-lag takes whatever was heard", "round.rs", "«message.get(&slot) == Some(&0)»", "message.contains_key(&slot)"),
+    ("nbr-lag takes what was heard with its slot's number", "round.rs", "«message.get(&slot) == Some(&0)»", "message.get(&slot) == Some(&i32::from(slot))"),
+    ("nbr-lag takes what was heard with its age", "round.rs", "«message.get(&slot) == Some(&0)»", "message.get(&slot) == Some(&age)"),
+    ("nbr-lag takes what was heard with 0 or below", "round.rs", "«message.get(&slot) == Some(&0)»", "message.get(&slot).is_some_and(|n| *n <= 0)"),
+    ("nbr-lag needs nothing heard in its slot", "round.rs", "«message.get(&slot) == Some(&0)»", "message.get(&slot).is_none_or(|n| *n == 0)"),
+    ("nbr-lag takes whoever was heard", "round.rs", "«message.get(&slot) == Some(&0)»", "true"),
+    ("nbr-lag takes 0 heard in any slot", "round.rs", "«message.get(&slot) == Some(&0)»", "message.values().any(|n| *n == 0)"),
+    ("nbr-lag leaves out age 0", "round.rs", "«message.get(&slot) == Some(&0)»", "message.get(&slot) == Some(&0) && age != 0"),
+    ("nbr-lag leaves out age 1", "round.rs", "«message.get(&slot) == Some(&0)»", "message.get(&slot) == Some(&0) && age != 1"),
+    ("nbr-lag leaves out age 2", "round.rs", "«message.get(&slot) == Some(&0)»", "message.get(&slot) == Some(&0) && age != 2"),
+    ("nbr-lag leaves out device 1", "round.rs", "«message.get(&slot) == Some(&0)»", "message.get(&slot) == Some(&0) && *b != 1"),
+    ("nbr-lag leaves out device 16", "round.rs", "«message.get(&slot) == Some(&0)»", "message.get(&slot) == Some(&0) && *b != 16"),
+    ("nbr-lag takes the lowest device only", "round.rs", "Value::Field(«lags»)", "lags.into_iter().take(1).collect()"),
+    // nbr-lag and nbr-range: what they give.
+    ("nbr-lag gives the distance", "round.rs", "Value::Field(«lags»)", "lags.keys().filter_map(|b| Some((*b, *self.device.distances.get(b)?))).collect()"),
+    ("nbr-lag gives the distance where there is a link", "round.rs", "lags.insert(*b, «age»);", "*self.device.distances.get(b).unwrap_or(&age)"),
+    ("nbr-lag gives the age after this round", "round.rs", "Value::Field(«lags»)", "lags.into_iter().map(|(b, age)| (b, age + 1)).filter(|(_, age)| *age < 3).collect()"),
+    ("nbr-lag counts this round", "round.rs", "lags.insert(*b, «age»);", "age + 1"),
+    ("nbr-lag gives the rounds that are left", "round.rs", "lags.insert(*b, «age»);", "READINGS - age"),
+    ("nbr-lag gives 0", "round.rs", "lags.insert(*b, «age»);", "0"),
+    ("nbr-lag gives 1 at most", "round.rs", "lags.insert(*b, «age»);", "age.min(1)"),
+    ("nbr-lag gives its slot", "round.rs", "lags.insert(*b, «age»);", "i32::from(slot)"),
+    ("nbr-lag gives the age of the device with its slot's number", "round.rs", "lags.insert(*b, «age»);", "self.device.readings.get(&slot).map_or(age, |left| READINGS - left)"),
+    ("nbr-lag gives the next sender's age", "round.rs", "lags.insert(*b, «age»);", "self.device.readings.get(&(b + 1)).map_or(age, |left| READINGS - left)"),
+    ("nbr-lag gives the lowest sender's age", "round.rs", "lags.insert(*b, «age»);", "self.device.readings.values().next().map_or(age, |left| READINGS - left)"),
+    (
+        "nbr-range gives the age",
+        "round.rs",
+        "let mut field = «self.device.distances.clone()»;",
+        "self.device.distances.keys().filter_map(|b| Some((*b, READINGS - self.device.readings.get(b)?))).collect()",
+    ),
+    ("nbr-range is nbr-lag", "round.rs", "let mut field = «self.device.distances.clone()»;", "self.lags(*slot)"),
+    (
+        "nbr-range gives the age where there is no link",
+        "round.rs",
+        "let mut field = «self.device.distances.clone()»;",
+        "let mut all = self.lags(*slot); all.extend(&self.device.distances); all",
+    ),
+    ("nbr-range asks for age 0", "round.rs", "«heard.get(device) == Some(&0)»", "heard.get(device) == Some(&0) && self.device.readings.get(device) == Some(&READINGS)"),
+    // nbr-lag: what it sends.
+    ("nbr-lag sends nothing", "round.rs", "«self.sent.insert(slot, 0);»", ""),
+    ("nbr-lag sends 1", "round.rs", "«self.sent.insert(slot, 0);»", "self.sent.insert(slot, 1);"),
+    ("nbr-lag sends its slot's number", "round.rs", "«self.sent.insert(slot, 0);»", "self.sent.insert(slot, i32::from(slot));"),
+    ("nbr-lag sends its greatest age", "round.rs", "Value::Field(«lags»)", "self.sent.insert(*slot, lags.values().copied().max().unwrap_or(0)); lags"),
+    ("nbr-lag sends how many it takes", "round.rs", "Value::Field(«lags»)", "self.sent.insert(*slot, lags.len() as i32); lags"),
+    ("nbr-lag sends nothing where it takes nobody", "round.rs", "Value::Field(«lags»)", "if lags.is_empty() { self.sent.remove(slot); } lags"),
+    ("nbr-lag sends nothing where it takes somebody", "round.rs", "Value::Field(«lags»)", "if !lags.is_empty() { self.sent.remove(slot); } lags"),
+    ("nbr-lag does not send in slot 15", "round.rs", "«self.sent.insert(slot, 0);»", "if slot != 15 { self.sent.insert(slot, 0); }"),
+    (
+        "nbr-lag sends from the branch not taken",
+        "round.rs",
+        "«self.value(&taken.node, parameters)?»",
+        "if let Form::NbrLag { slot } = &other.node.form { self.sent.insert(*slot, 0); } self.value(&taken.node, parameters)?",
+    ),
+    (
+        "nbr-lag below the branch not taken sends",
+        "round.rs",
+        "«self.value(&taken.node, parameters)?»",
+        concat!(
+            "let below = |slot: &u8| !matches!(&other.node.form, Form::NbrLag { .. }) && ",
+            of_a_lag_in!("other.node"),
+            "; self.sent.extend((1..=15).filter(below).map(|slot| (slot, 0))); self.value(&taken.node, parameters)?"
+        ),
+    ),
+    (
+        "nbr-lag in a called definition sends nothing",
+        "round.rs",
+        "Value::Number(«self.number(&definition.body, &numbers)?»)",
+        concat!(
+            "let number = self.number(&definition.body, &numbers)?; self.sent.retain(|slot, _| !",
+            of_a_lag_in!("definition.body"),
+            "); number"
+        ),
+    ),
+    // nbr-lag: what else its round does.
+    ("nbr-lag forgets the variable with its slot's number", "round.rs", "Value::Field(«lags»)", "self.variables.remove(slot); lags"),
+    (
+        "a round with an nbr-lag ages nothing",
+        "event.rs",
+        "«device.fade();»",
+        concat!("if !outcome.sent.keys().any(|slot| ", of_a_lag_in!("program"), ") { device.fade(); }"),
+    ),
+    ("who nbr-lag takes ages twice", "event.rs", "«device.fade();»", of_who_lag_takes!("*left -= 1;")),
+    ("who nbr-lag takes does not age", "event.rs", "«device.fade();»", of_who_lag_takes!("*left += 1;")),
+    ("who nbr-lag takes does not fade", "event.rs", "«device.fade();»", of_who_lag_takes!("*left = (*left).max(2);")),
+    // nbr-lag in the table.
+    (
+        "kind 13 is unknown",
+        "table.rs",
+        "let Some((kind, body)) = «body.split_first()» else {",
+        "body.split_first().map(|(kind, rest)| match (*kind, rest) { (13, _) => (&14, rest), _ => (kind, rest) })",
+    ),
+    (
+        "kind 14 is nbr-lag too",
+        "table.rs",
+        "let Some((kind, body)) = «body.split_first()» else {",
+        "body.split_first().map(|(kind, rest)| match (*kind, rest) { (14, _) => (&13, rest), _ => (kind, rest) })",
+    ),
+    (
+        "nbr-lag may have a byte more",
+        "table.rs",
+        "let Some((kind, body)) = «body.split_first()» else {",
+        "body.split_first().map(|(kind, rest)| match (*kind, rest) { (13, [_, _]) => (kind, &rest[..1]), _ => (kind, rest) })",
+    ),
+    (
+        "nbr-lag may have 256 bytes more",
+        "table.rs",
+        "let Some((kind, body)) = «body.split_first()» else {",
+        "body.split_first().map(|(kind, rest)| match (*kind, rest) { (13, [_, ..]) if rest.len() == 257 => (kind, &rest[..1]), _ => (kind, rest) })",
+    ),
+    (
+        "nbr-lag may have no slot",
+        "table.rs",
+        "let Some((kind, body)) = «body.split_first()» else {",
+        "body.split_first().map(|(kind, rest)| match (*kind, rest) { (13, []) => (kind, &[1][..]), _ => (kind, rest) })",
+    ),
+    (
+        "the slot of nbr-lag is tested before its length",
+        "table.rs",
+        "«self.test(&items, body)?;»",
+        "if *kind == 13 && body.first().is_some_and(|slot| !Item::Slot.holds(&[*slot])) { return Err(3); } self.test(&items, body)?;",
+    ),
+    (
+        "the 257th node may be an nbr-lag",
+        "table.rs",
+        "«if self.nodes == NODES {\n            return Err(2);\n        }»",
+        "if self.nodes == NODES && *kind != 13 { return Err(2); }",
+    ),
+    (
+        "the length of nbr-lag is tested before the 257th node",
+        "table.rs",
+        "«if self.nodes == NODES {\n            return Err(2);\n        }»",
+        "if *kind == 13 && body.len() != 1 { return Err(1); } if self.nodes == NODES { return Err(2); }",
+    ),
+    (
+        "the slot of nbr-lag is tested before the 257th node",
+        "table.rs",
+        "«if self.nodes == NODES {\n            return Err(2);\n        }»",
+        "if *kind == 13 && body == [0] { return Err(3); } if self.nodes == NODES { return Err(2); }",
+    ),
+    ("slot 0 of nbr-lag is in range", "table.rs", "«self.test(&items, body)?;»", "if !(*kind == 13 && body == [0]) { self.test(&items, body)?; }"),
+    ("slot 16 of nbr-lag is in range", "table.rs", "«self.test(&items, body)?;»", "if !(*kind == 13 && body == [16]) { self.test(&items, body)?; }"),
+    ("slot 1 of nbr-lag is out of range", "table.rs", "«self.test(&items, body)?;»", "if *kind == 13 && body == [1] { return Err(3); } self.test(&items, body)?;"),
+    ("slot 15 of nbr-lag is out of range", "table.rs", "«self.test(&items, body)?;»", "if *kind == 13 && body == [15] { return Err(3); } self.test(&items, body)?;"),
+    ("nbr-lag does not take its slot", "table.rs", "(13, &[slot]) => {\n                «self.slots.insert(slot);»", ""),
+    // The next four note in slots from 17 on what an nbr-lag took.
+    (
+        "nbr-lag may take the slot of an nbr or nbr-range",
+        "table.rs",
+        "«self.test(&items, body)?;»",
+        "if *kind == 13 {
+            let mut apart = Table::default();
+            apart.slots.extend(self.slots.iter().filter(|slot| **slot > 16).map(|slot| slot - 16));
+            apart.test(&items, body)?;
+            self.slots.insert(body[0] + 16);
+        } else {
+            self.test(&items, body)?;
+        }",
+    ),
+    (
+        "nbr-lag may take the slot of an nbr-lag",
+        "table.rs",
+        "«self.test(&items, body)?;»",
+        "if *kind == 13 && body.len() == 1 && self.slots.contains(&body[0].wrapping_add(16)) { self.slots.remove(&body[0]); }
+        self.test(&items, body)?;
+        if *kind == 13 { self.slots.insert(body[0] + 16); }",
+    ),
+    (
+        "nbr may take the slot of an nbr-lag",
+        "table.rs",
+        "«self.test(&items, body)?;»",
+        "if *kind == 8 && body.first().is_some_and(|slot| self.slots.contains(&slot.wrapping_add(16))) { self.slots.remove(&body[0]); }
+        self.test(&items, body)?;
+        if *kind == 13 { self.slots.insert(body[0] + 16); }",
+    ),
+    (
+        "nbr-range may take the slot of an nbr-lag",
+        "table.rs",
+        "«self.test(&items, body)?;»",
+        "if *kind == 9 && body.first().is_some_and(|slot| self.slots.contains(&slot.wrapping_add(16))) { self.slots.remove(&body[0]); }
+        self.test(&items, body)?;
+        if *kind == 13 { self.slots.insert(body[0] + 16); }",
+    ),
+    (
+        "an nbr-lag may stand unnamed",
+        "table.rs",
+        "«!rest.is_empty() || !self.unnamed.is_empty()»",
+        "!rest.is_empty() || !self.unnamed.values().all(|node| matches!(node.form, Form::NbrLag { .. }))",
+    ),
+    // nbr-lag in the trees.
+    ("nbr-lag is a number", "tree.rs", "Form::NbrLag { .. } => «Sort::Field»", "if matches!(&form, Form::NbrLag { .. }) { Sort::Number } else { Sort::Field }"),
+    (
+        "an if of nbr-lags is a number",
+        "tree.rs",
+        "Form::If { then, .. } => «then.node.sort»",
+        "if matches!(&then.node.form, Form::NbrLag { .. }) { Sort::Number } else { then.node.sort }",
+    ),
+    (
+        "a body may be an nbr-lag",
+        "tree.rs",
+        "if «tree.sort == Sort::Field»",
+        "tree.sort == Sort::Field && (std::ptr::eq(tree, &self.main) || !matches!(&tree.form, Form::NbrLag { .. }))",
+    ),
+    (
+        "main may be an nbr-lag",
+        "tree.rs",
+        "if «tree.sort == Sort::Field»",
+        "tree.sort == Sort::Field && !(std::ptr::eq(tree, &self.main) && matches!(&tree.form, Form::NbrLag { .. }))",
+    ),
+    ("sense may have an nbr-lag", "tree.rs", "let field = |node: &Node| «node.sort == Sort::Field»;", field_but_lag_under!("Sense")),
+    ("rep may have an nbr-lag", "tree.rs", "let field = |node: &Node| «node.sort == Sort::Field»;", field_but_lag_under!("Rep")),
+    ("an if may have an nbr-lag as condition", "tree.rs", "let field = |node: &Node| «node.sort == Sort::Field»;", field_but_lag_under!("If")),
+    ("mux may have an nbr-lag", "tree.rs", "let field = |node: &Node| «node.sort == Sort::Field»;", field_but_lag_under!("Mux")),
+    ("nbr may have an nbr-lag", "tree.rs", "let field = |node: &Node| «node.sort == Sort::Field»;", field_but_lag_under!("Nbr")),
+    ("a call may have an nbr-lag", "tree.rs", "let field = |node: &Node| «node.sort == Sort::Field»;", field_but_lag_under!("Call")),
+    (
+        "an if may have an nbr-lag and a number",
+        "tree.rs",
+        "«then.node.sort != otherwise.node.sort»",
+        "let lag = |branch: &Branch| matches!(&branch.node.form, Form::NbrLag { .. }); then.node.sort != otherwise.node.sort && !lag(then) && !lag(otherwise)",
+    ),
+    (
+        "a fold by operator may start from an nbr-lag",
+        "tree.rs",
+        "Form::FoldByOperator { initial, field: third, .. } => «field(initial)»",
+        "field(initial) && !matches!(&initial.form, Form::NbrLag { .. })",
+    ),
+    (
+        "a fold by definition may start from an nbr-lag",
+        "tree.rs",
+        "Form::FoldByDefinition { initial, field: third, .. } => «field(initial)»",
+        "field(initial) && !matches!(&initial.form, Form::NbrLag { .. })",
+    ),
+    ("nbr-lag does not make spatial", "tree.rs", "Form::NbrLag { .. } => «true»", "!matches!(&node.form, Form::NbrLag { .. })"),
+    (
+        "definitions with nbr-lag may be called twice",
+        "tree.rs",
+        "Form::Call { definition, .. } if «definition.spatial»",
+        spatial_but_for_lag!("spatial"),
+    ),
+    (
+        "folds by definitions with nbr-lag pass",
+        "tree.rs",
+        "if «definition.spatial || definition.parameters != 2»",
+        spatial_but_for_lag!("spatial || definition.parameters != 2"),
+    ),
+    (
+        "spatial by nbr-lag does not go through calls",
+        "tree.rs",
+        "Form::Call { definition, .. } => «definition.spatial»",
+        spatial_but_for_lag!("spatial"),
+    ),
+    (
+        "nbr-lag costs 0",
+        "tree.rs",
+        "cost = «cost.saturating_add(1).saturating_add(more)»;",
+        "cost.saturating_add(u128::from(!matches!(&node.form, Form::NbrLag { .. }))).saturating_add(more)",
+    ),
+    (
+        "nbr-lag costs 2",
+        "tree.rs",
+        "cost = «cost.saturating_add(1).saturating_add(more)»;",
+        "cost.saturating_add(1 + u128::from(matches!(&node.form, Form::NbrLag { .. }))).saturating_add(more)",
+    ),
     // A long list.
     ("a run does at most 16,384 events", "lib.rs", "for (event, pair) in «events.iter()».zip", "events[..events.len().min(16_384)].iter()"),
 ];

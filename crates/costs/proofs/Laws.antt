@@ -14,7 +14,7 @@ use Rattle.words.specs.Form.{operatorForm, foldByForm, callForm}
 use Rattle.words.specs.Word.{form, word}
 use Rattle.words.specs.Trees.{treeAt}
 use Rattle.operands.specs.Formed.{width, operand, part, Formed}
-use Rattle.operands.proofs.Views.{View, is-constant, is-parameter, is-variable, is-operator, is-sense, is-rep, is-if, is-mux, is-fold-by, is-call, is-fold, is-nbr, is-range, is-field-if}
+use Rattle.operands.proofs.Views.{View, is-constant, is-parameter, is-variable, is-operator, is-sense, is-rep, is-if, is-mux, is-fold-by, is-call, is-fold, is-nbr, is-range, is-lag, is-field-if}
 use Rattle.operands.proofs.Views.{is-field-operator, view}
 use Rattle.operands.proofs.Alone.{Alone}
 use Rattle.costs.specs.Costs.{cap, capped, bodyCost, Noted, Asks, Gives}
@@ -35,6 +35,7 @@ all-cost (is-call h e) = rw (e, h)
 all-cost (is-fold h e) = rw (e, h) (simp add-zero)
 all-cost (is-nbr h e) = rw (e, h) (simp add-zero)
 all-cost (is-range h e) = rw (e, h)
+all-cost (is-lag h e) = rw (e, h)
 all-cost (is-field-if h e) = rw (e, h) (simp add-zero)
 all-cost (is-field-operator h e) = rw (e, h) (simp add-zero)
 

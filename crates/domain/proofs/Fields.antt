@@ -19,7 +19,8 @@ use Rattle.field.specs.Field.{Field, from, resultAt, faultsAt, pointwise, fault
 use Rattle.domain.specs.Held.{cellOf, fieldOf}
 use Rattle.domain.specs.Members.{before, those, members, anyZero}
 use Rattle.arith.proofs.Signs.{eqZ-yes, eqZ-no}
-use Rattle.domain.proofs.Laws.{bit-members, from-same, shared-domain}
+use Rattle.field.proofs.Each.{from-same}
+use Rattle.domain.proofs.Laws.{bit-members, shared-domain}
 
 -- ---- operators on fields
 

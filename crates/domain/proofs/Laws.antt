@@ -20,6 +20,7 @@ use Rattle.program.specs.Table.{among}
 use Rattle.bits.specs.Bits.{hasBit}
 use Rattle.bits.proofs.Bits.{parity}
 use Rattle.field.specs.Field.{from}
+use Rattle.field.proofs.Each.{from-same}
 use Rattle.domain.specs.Held.{cellOf, fieldOf}
 use Rattle.domain.specs.Members.{before, those, members, places, bit, built}
 use Rattle.domain.proofs.Walk.{by-halves, devs-length}
@@ -91,14 +92,6 @@ unfolding fieldOf members
 places-members dom cells = places-those (λ (k : ℕ). hasBit k dom) (λ (k : ℕ). getD cells k (pos 0)) 16 0
 
 -- ---- what is alike at each place is alike
-
-pub from-same : {A : Type 0} (f g : ℕ → A) (n a : ℕ) → ((j : ℕ) → j < n → f (a + j) ≡ g (a + j)) → from a n f ≡ from a n g
-unfolding from
-from-same f g zero a h = refl
-from-same f g (suc n) a h =
-    let e : f a ≡ g a = rw add-zero at (h zero (zero-lt-suc n)) in
-    let r = from-same f g n (suc a) (λ j b. rw (suc-add a j, ← add-suc a j) (h (suc j) (omega arith))) in
-    cc
 
 those-same : (p q : ℕ → Bool) (n a : ℕ) → ((j : ℕ) → j < n → p (a + j) ≡ q (a + j)) → those a n p ≡ those a n q
 unfolding those

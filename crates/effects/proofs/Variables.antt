@@ -8,7 +8,7 @@ use lib.ListN.{length, getD, take, length-set, length-take, length-replicate}
 use lib.IntN.{ℤ, pos}
 use Rattle.number.specs.Number.{mark, eqZ, Operator, faults}
 use Rattle.field.specs.Field.{Field, each, everywhere, faultsIn}
-use Rattle.program.specs.Tree.{Expr, nothing, constant, parameter, variable, operator, sense, rep, branch, mux, nbr, range, foldOp, foldDef, call}
+use Rattle.program.specs.Tree.{Expr, nothing, constant, parameter, variable, operator, sense, rep, branch, mux, nbr, range, lag, foldOp, foldDef, call}
 use Rattle.network.specs.Cells.{store}
 use native.Mathlib.Omega.{arith}
 use Rattle.network.specs.Network.{sensorsAt, heardAt, pendingAt, ageAt}
@@ -92,6 +92,7 @@ module _ (m : ℕ) where
       (λ p t k. then-kept (eval b y args t) (eval-kept b y args t k) (λ q u g. then-kept (eval b c args u) (eval-kept b c args u g) (λ r w i. kept-done i)))
   eval-kept b (nbr i e) args s h = then-kept (eval b e args s) (eval-kept b e args s h) (λ x t k. kept-done (sending-held i (numberOf x) t k))
   eval-kept b (range i) args s h = kept-done (sending-held i (pos 0) s h)
+  eval-kept b (lag i) args s h = kept-done (sending-held i (pos 0) s h)
   eval-kept b (foldOp n o i f) args s h =
       then-kept (eval b i args s) (eval-kept b i args s h)
       (λ x t k. then-kept (eval b f args t) (eval-kept b f args t k)

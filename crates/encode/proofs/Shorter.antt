@@ -44,6 +44,7 @@ childless-kind kind i count s t =
       fold = λ e n m. absurd (omega arith);
       foldBy = λ e n m. absurd (omega arith);
       call = λ e n m. absurd (m refl);
+      lag = λ e n m. (refl, refl);
     }
     kind
 

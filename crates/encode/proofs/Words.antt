@@ -62,6 +62,7 @@ shape kind count s t =
       fold = record { known = refl; number = refl; width = refl; bodied = refl; parameter = refl };
       foldBy = record { known = refl; number = refl; width = refl; bodied = refl; parameter = refl };
       call = record { known = refl; number = refl; width = refl; bodied = refl; parameter = refl };
+      lag = record { known = refl; number = refl; width = refl; bodied = refl; parameter = refl };
     }
     kind
   where
@@ -108,6 +109,7 @@ has-item kind i =
       fold = λ a b c d e f. refl;
       foldBy = λ a b c d e f. absurd (e refl);
       call = λ a b c d e f. absurd (f refl);
+      lag = λ a b c d e f. refl;
     }
     kind
 

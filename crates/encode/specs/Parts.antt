@@ -7,7 +7,7 @@ use lib.ListN.{getD}
 use lib.Dec.{ltb}
 use Rattle.program.specs.Table.{kindCount}
 use Rattle.words.specs.Form.{constantForm, parameterForm, variableForm, operatorForm, senseForm, repForm, ifForm, muxForm, foldByForm, callForm, foldForm, nbrForm}
-use Rattle.words.specs.Form.{rangeForm, fieldIfForm, fieldOperatorForm}
+use Rattle.words.specs.Form.{rangeForm, lagForm, fieldIfForm, fieldOperatorForm}
 use Rattle.shapes.specs.Kinds.{constantKind}
 use Rattle.program.specs.Tree.{signed}
 use Rattle.words.specs.Word.{form, item, p1, p2, p3, p4, body, count, constantOf}
@@ -31,6 +31,7 @@ formBy kind side branch =
     ∷ foldForm
     ∷ foldByForm
     ∷ callForm
+    ∷ lagForm
     ∷ [])
     kind
     constantForm

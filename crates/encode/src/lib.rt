@@ -64,6 +64,7 @@ fn form_by(kind: u8, side: bool, branch: bool) -> u8
         shapes::RANGE => unpack::RANGE,
         shapes::FOLD => unpack::FOLD,
         shapes::FOLD_BY => unpack::FOLD_BY,
+        shapes::LAG => unpack::LAG,
         _ => unpack::CALL,
     }
 }
@@ -98,7 +99,7 @@ pub fn word_of(x: nodes::Node, body: u8, side: bool, branch: bool) -> u64
     parts_word(form, item, x, body)
 }
 
-// The word of a node without children: a constant, parameter, variable or nbr-range, or a call without arguments.
+// The word of a node without children: a constant, parameter, variable, nbr-range or nbr-lag, or a call without arguments.
 pub fn childless_word(x: nodes::Node, body: u8) -> u64
     requires { ⌜ Childless x ⌝ }
     ensures { λ r. ⌜ ((side branch : Bool) → IsWord x body side branch r) ⌝ }

@@ -1,32 +1,37 @@
 // The evaluator of one round. Its functions call each other, so what they take is whole numbers and references to arrays, mostly in registers; a field is returned by value.
 //
-// `t`: a word a node. `u`: the variables of the reps under each node. `here`: what the round reads, the device's cells up to its messages. `st`: the state (crate apply).
-// `env`: the parameters. `n`: the node.
+// `t`: a word a node. `u`: the variables of the reps under each node. `here`: what the round reads, the device's cells but its messages, with the ages where those begin.
+// `st`: the state (crate apply). `env`: the parameters. `n`: the node.
 use layout::FAULT;
+use layout::HEARD;
+use layout::LAGS;
 use layout::NODES;
 use layout::OWN;
+use layout::ROW;
 use layout::SENSORS;
 use layout::SENT;
 use layout::STATE;
 use unpack::CALL;
 use unpack::FIELD_IF;
+use unpack::FIELD_OPERATOR;
 use unpack::FIELDS;
 use unpack::FOLD_BY;
 use unpack::IF;
+use unpack::LAG;
 use unpack::LEAST;
 use unpack::LEAVES;
 use unpack::MUX;
 use unpack::NBR;
 use unpack::OPERATOR;
 use unpack::PAIR;
-use unpack::RANGE;
 use unpack::REP;
 use unpack::SENSE;
 ghost use mathlib.Core.Path.{_≡_};
+ghost use mathlib.Core.Bool.{cond};
 ghost use Prim.Native.Nat.{_%_, _<_, _≤_};
 ghost use lib.IntN.{pos};
 ghost use Rattle.domain.specs.Held.{fieldOf};
-ghost use Rattle.round.specs.Round.{field, done, arguments, folded, rangeIn, sending, eval};
+ghost use Rattle.round.specs.Round.{field, done, arguments, folded, rangeIn, lagIn, sending, eval};
 ghost use Rattle.words.specs.Form.{operatorForm, senseForm, repForm, ifForm, muxForm, callForm, nbrForm, fieldIfForm, leafForms};
 ghost use Rattle.words.specs.Word.{form, count, word};
 ghost use Rattle.apply.specs.State.{stateOf, faultOf, Gives, GivesField, GivesSide};
@@ -458,9 +463,8 @@ fn field_at(
     let form = unpack::form_of(w);
     match form {
         NBR => nbr_at(t, u, here, st, env, n),
-        RANGE => range_at(here, st, unpack::item_of(w) as usize),
         FIELD_IF => field_if_at(t, u, here, st, env, n),
-        _ => {
+        FIELD_OPERATOR => {
             let l = field_side(t, u, here, st, env, unpack::first(w));
             if st[FAULT] != 0 {
                 return domain::no_field();
@@ -471,6 +475,7 @@ fn field_at(
             }
             apply::field_op(st, n, unpack::item_of(w), l.dom, &l.cells, r.dom, &r.cells)
         }
+        _ => measured_at(here, st, unpack::item_of(w) as usize, form == LAG),
     }
 }
 
@@ -548,16 +553,22 @@ fn field_side(
     domain::spread(v)
 }
 
-// An nbr-range: 0 is sent, and the field is the distances of those heard.
-fn range_at(here: &[i32; OWN], st: &mut [i32; STATE], slot: usize) -> domain::Held
+// An nbr-range, or an nbr-lag where `lag`: 0 is sent, and the field is the measure of those heard with 0.
+fn measured_at(here: &[i32; OWN], st: &mut [i32; STATE], slot: usize, lag: bool) -> domain::Held
     requires { ⌜ (slot < 16) × (faultOf (now st) ≡ pos 0) ⌝ }
-    ensures { λ r. ⌜ GivesField (done (field (rangeIn (now (here .entry)) slot)) (sending slot (pos 0) (stateOf (now (st .entry))))) r (now (st .exit)) ⌝ }
+    ensures { λ r. ⌜ GivesField (done (field (cond lag (lagIn (now (here .entry)) slot) (rangeIn (now (here .entry)) slot))) (sending slot (pos 0) (stateOf (now (st .entry))))) r (now (st .exit)) ⌝ }
 {
     st[SENT + slot] = 0;
-    heard::range_of(here, slot)
+    let mut from = HEARD;
+    let mut by = ROW;
+    if lag {
+        from = LAGS;
+        by = 1;
+    }
+    heard::measured(here, slot, from, by)
 }
 
-// Node main of a sound table, in a device with the cells `here`, with no parameters.
+// Node main of a sound table, where the round reads the cells `here`, with no parameters.
 pub fn evaluate(
     t: &[u64; NODES],
     u: &[u16; NODES],

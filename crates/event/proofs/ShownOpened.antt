@@ -10,7 +10,7 @@ use Rattle.program.specs.Table.{firstOf, among, size, valuesIn, picked, allNumb
 use Rattle.program.specs.Tree.{treeOf, grown, trees, isField, sortBroken, misread, spatial, cost}
 use Rattle.program.specs.Check.{lowest, offending, sortOffends, misreadIn, called, useOffends, treeRows, check}
 use Rattle.network.specs.Network.{copies, fresh}
-use Rattle.round.specs.Round.{operated, folded, sensed, heardIn, rangeIn, reps, erased, eval, round, message, joined, fades, older, faded, after, fired}
+use Rattle.round.specs.Round.{operated, folded, sensed, heardIn, measured, reps, erased, eval, round, message, joined, fades, older, faded, after, fired}
 use Rattle.event.specs.Event.{Entry, readAs, readFrom, readList, readOne}
 use Rattle.event.specs.Step.{digitSet, refusal, plan}
 use Rattle.event.specs.Calls.{firstRefusal, tests, performed, carriedOut, oneEvent, run}
@@ -22,7 +22,7 @@ reading n = n
 
 -- a round
 unfoldable firing : ℕ → ℕ
-unfolding brought plus minus times over result faults from pointwise faultsIn copies fresh operated folded sensed heardIn rangeIn reps erased eval round message joined fades older faded after fired
+unfolding brought plus minus times over result faults from pointwise faultsIn copies fresh operated folded sensed heardIn measured reps erased eval round message joined fades older faded after fired
 firing n = n
 
 -- an event done

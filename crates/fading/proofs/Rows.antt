@@ -15,7 +15,7 @@ use Rattle.network.specs.Cells.{row, store}
 use Rattle.network.specs.Network.{heardAt, ageAt, blockSize}
 use Rattle.network.proofs.Stores.{store-out, store-more, row-row}
 use Rattle.cells.proofs.Rows.{row-length, store-row, row-out, joined-length, joined-rows}
-use Rattle.domain.proofs.Laws.{from-same}
+use Rattle.field.proofs.Each.{from-same}
 use Rattle.round.specs.Round.{joined, fades, older, ages, faded}
 use Rattle.fading.specs.Fading.{rowAfter, NoneFades, Older}
 

@@ -5,8 +5,7 @@ use mathlib.Core.List.{List, [], _∷_, map}
 use Prim.Native.Nat.{ℕ, _+_, _-_, _*_, _≤_, _<_}
 use native.Mathlib.Nat.{add-zero}
 use native.Mathlib.Omega.{arith}
-use lib.ListN.{length, getD, take, drop}
-use lib.Seq.{getD-take, take-take}
+use lib.ListN.{length, getD, drop}
 use lib.IntN.{ℤ, pos, _-ℤ_}
 use mir.Syntax.{w32}
 use mir.Val.{SFits, ofZ, toZ}
@@ -17,7 +16,8 @@ use Rattle.field.specs.Field.{devices, each}
 use Rattle.program.specs.Tree.{Expr}
 use Rattle.network.specs.Cells.{row, store, write}
 use Rattle.network.specs.Network.{blockSize, base, heardAt, pendingAt, ageAt, noMessage}
-use Rattle.round.specs.Round.{State, Outcome, done, fault, arguments, eval, round, message, joined, older, ages, faded, after, firedBy, fired}
+use Rattle.round.specs.Round.{State, Outcome, done, fault, own, arguments, eval, round, message, joined, older, ages, faded, after, firedBy, fired}
+use Rattle.round.proofs.Own.{own-heard, own-variables}
 use Rattle.event.specs.Event.{fire}
 use Rattle.event.specs.Step.{pendingTo, outOfRange, block, effect, plan}
 use Rattle.apply.specs.State.{stateSize, stateOf, faultOf, Gives}
@@ -25,8 +25,8 @@ use Rattle.arith.proofs.Signs.{eqZ-yes, eqZ-no}
 use Rattle.effects.specs.declared.Answer.{Answer}
 use Rattle.effects.specs.Does.{answerOf, Acts, IdleRow, Idle}
 use Rattle.effects.proofs.Refusals.{is-14, is-0, turned}
-use Rattle.fire.specs.Fires.{ownSize, atFirst, IdleRows, Puts}
-use Rattle.domain.proofs.Laws.{from-same}
+use Rattle.fire.specs.Fires.{atFirst, IdleRows, Puts}
+use Rattle.field.proofs.Each.{from-same}
 use Rattle.cells.proofs.Rows.{row-length, store-row, joined-length, write-into}
 use Rattle.effects.proofs.Idle.{message-length, idle-out}
 use Rattle.fading.specs.Fading.{Older}
@@ -62,9 +62,9 @@ idle-older n m at b h l o i =
 pub idle-rows : (n : List ℤ) (a : ℕ) → Idle n → 1 ≤ a → a ≤ devices → IdleRows n (base a + pendingAt 1)
 idle-rows n a i p q b h = let e : pendingTo (1 + (a - 1)) (1 + b) ≡ base a + pendingAt 1 + 16 * b = omega arith in rw e at (i (a - 1) b (omega arith) h)
 
-messages-same : (l : List ℤ) (s : State) → each (message l s) ≡ each (message (take ownSize l) s)
+messages-same : (l : List ℤ) (s : State) → pendingAt 1 ≤ length l → each (message l s) ≡ each (message (own l) s)
 unfolding message
-messages-same l s = from-same (message l s) (message (take ownSize l) s) 16 1 (λ j h. rw (getD-take ownSize l (heardAt (1 + j) + 0) (pos 0) (omega arith)))
+messages-same l s k = from-same (message l s) (message (own l) s) 16 1 (λ j h. rw (own-heard l k 0 (1 + j) (omega arith)))
 
 -- ---- what a state's lists have
 module _ (st : List ℤ) (h : length st ≡ stateSize) where
@@ -113,9 +113,12 @@ module _ (main : Expr) (n : List ℤ) (a : ℕ) where
   unfolding plan
   planned o = rw (is-0 n (fire a) o refl refl)
 
-  round-is : round main (block n a) ≡ eval (row n (base a) ownSize) main (arguments (pos 0) (pos 0) (pos 0) (pos 0)) (atFirst (row n (base a) ownSize))
+  enough : base a + blockSize ≤ length n → pendingAt 1 ≤ length (block n a)
+  enough h = omega (arith, row-length n (base a) blockSize h)
+
+  round-is : base a + blockSize ≤ length n → round main (block n a) ≡ eval (own (block n a)) main (arguments (pos 0) (pos 0) (pos 0) (pos 0)) (atFirst (own (block n a)))
   unfolding round
-  round-is = rw (take-take ownSize blockSize (drop (base a) n) (omega arith), take-take 16 blockSize (drop (base a) n) (omega arith), take-take 16 ownSize (drop (base a) n) (omega arith))
+  round-is h = rw (own-variables (block n a) (enough h))
 
   -- the cells of a after its round, stored where they are
   stored-whole : (s : State) → base a + blockSize ≤ length n → length (s .variables) ≡ 16 → length (s .sent) ≡ 16
@@ -123,7 +126,7 @@ module _ (main : Expr) (n : List ℤ) (a : ℕ) where
       (base a + heardAt 1, joined (each (faded (block n a))))
       ∷ (base a + ageAt 1, map older (ages (block n a)))
       ∷ (base a, s .variables)
-      ∷ (base a + ownSize, joined (each (message (row n (base a) ownSize) s)))
+      ∷ (base a + pendingAt 1, joined (each (message (own (block n a)) s)))
       ∷ [])
   unfolding after
   stored-whole s h v w =
@@ -132,19 +135,19 @@ module _ (main : Expr) (n : List ℤ) (a : ℕ) where
       let ws : List (ℕ × List ℤ) =
       (heardAt 1, joined (each (faded (block n a)))) ∷ (ageAt 1, map older (ages (block n a))) ∷ (0, s .variables) ∷ (pendingAt 1, joined (each (message (block n a) s))) ∷ [] in
       write-into n (block n a) (base a) ws (omega (arith, faded-length n (base a) h), (omega (arith, ages-length n (base a) h), (omega arith, (omega arith, tt))))
-      ∙ rw (store-row n (base a) blockSize, add-zero (base a), messages-same (block n a) s, take-take ownSize blockSize (drop (base a) n) (omega arith))
+      ∙ rw (store-row n (base a) blockSize, add-zero (base a), messages-same (block n a) s (enough h))
 
-  module _ (here : List ℤ) (own : here ≡ row n (base a) ownSize) (r : ℤ) (first st : List ℤ) (x : Answer) (go : outOfRange (fire a) ≡ false)
+  module _ (h : base a + blockSize ≤ length n) (here : List ℤ) (lent : here ≡ own (block n a)) (r : ℤ) (first st : List ℤ) (x : Answer) (go : outOfRange (fire a) ≡ false)
       (e : stateOf first ≡ atFirst here) (g : Gives (eval here main (arguments (pos 0) (pos 0) (pos 0) (pos 0)) (stateOf first)) r st) where
     gives : Gives (round main (block n a)) r st
-    gives = let q = rw e at g in let p = rw own at q in rw round-is p
+    gives = let q = rw e at g in let p = rw lent at q in rw (round-is h) p
 
-    pub fires : (m : List ℤ) → faultOf st ≡ pos 0 → base a + blockSize ≤ length n → length st ≡ stateSize → Puts n (base a) here st m → answerOf x ≡ (pos 0, r) → Acts main n (fire a) x m
+    pub fires : (m : List ℤ) → faultOf st ≡ pos 0 → length st ≡ stateSize → Puts n (base a) here st m → answerOf x ≡ (pos 0, r) → Acts main n (fire a) x m
     unfolding fired
-    fires m z h k p q =
+    fires m z k p q =
         let w = went (round main (block n a)) r st (block n a) gives z in
         record {
-          network = rw (planned go, w) (rw own at (p .network) ∙ sym (stored-whole (stateOf st) h (variables-length st k) (sent-length st k)));
+          network = rw (planned go, w) (rw lent at (p .network) ∙ sym (stored-whole (stateOf st) h (variables-length st k) (sent-length st k)));
           answer = rw (planned go, w) q;
         }
 

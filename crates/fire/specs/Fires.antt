@@ -16,11 +16,7 @@ use Rattle.words.specs.Sound.{Sound}
 use Rattle.apply.specs.State.{stateOf, faultOf}
 use Rattle.effects.specs.Does.{IdleRow, Idle}
 
--- a device's own cells, those up to its messages
-abbrev pub ownSize : ℕ
-ownSize = pendingAt 1
-
--- a round's first state, in a device with the cells `here`
+-- a round's first state, where it reads the cells `here`
 abbrev pub atFirst : List ℤ → State
 atFirst here = record { variables = take 16 here; sent = replicate 16 mark }
 

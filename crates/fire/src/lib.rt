@@ -1,26 +1,35 @@
 // The event fire, on the network's cells, exactly as the crate event defines it.
 //
-// `here`: the device's own cells, those up to its messages. `st`: the round's state (crate apply), lent by the run and made anew for each round.
+// `here`: what a round reads, the device's cells but its messages, with the ages where those begin. `st`: the round's state (crate apply), lent by the run and made anew
+// for each round.
 ghost use mathlib.Core.Path.{_≡_};
 ghost use Prim.Native.Nat.{_+_, _*_, _<_, _≤_};
 ghost use lib.ListN.{length};
 ghost use Rattle.field.specs.Field.{devices, each};
 ghost use Rattle.network.specs.Cells.{row, store};
 ghost use Rattle.network.specs.Network.{blockSize, pendingAt};
-ghost use Rattle.round.specs.Round.{message, joined};
+ghost use Rattle.round.specs.Round.{own, message, joined};
 ghost use Rattle.event.specs.Event.{fire};
 ghost use Rattle.apply.specs.State.{stateSize, stateOf};
 ghost use Rattle.words.specs.Trees.{treeAt};
 ghost use Rattle.effects.specs.Does.{Acts, IdleRow};
-ghost use Rattle.fire.specs.Fires.{ownSize, Begun, IdleRows, Puts, MayFire};
+ghost use Rattle.fire.specs.Fires.{Begun, IdleRows, Puts, MayFire};
+ghost use Rattle.heard.specs.Measures.{ownSize};
 
-// The device's own cells, from `at` on.
+// What a round reads of the device's cells, which are from `at` on.
 fn own_cells(net: &[i32], at: usize) -> [i32; layout::OWN]
-    requires { ⌜ at + ownSize ≤ length (now net) ⌝ }
-    ensures { λ r. ⌜ r ≡ row (now (net .entry)) at ownSize ⌝ }
+    requires { ⌜ at + blockSize ≤ length (now net) ⌝ }
+    ensures { λ r. ⌜ r ≡ own (row (now (net .entry)) at blockSize) ⌝ }
 {
     let mut here = [0; layout::OWN];
-    cells::copy(&mut here, 0, net, at, layout::OWN);
+    cells::copy(&mut here, 0, net, at, layout::PENDING);
+    cells::copy(
+        &mut here,
+        layout::LAGS,
+        net,
+        at + layout::AGES,
+        layout::DEVICES,
+    );
     here
 }
 

@@ -6,7 +6,7 @@ use Prim.Native.Nat.{ℕ, suc, _+_, _≤_, _<_}
 use native.Mathlib.Omega.{arith}
 use lib.ListN.{length, getD, take, drop, List·getD-eq-default}
 use lib.Dec.{eqb, leb}
-use borrow.Author.Tests.{le-leb, lt-leb, eq-eqb, ne-eqb}
+use borrow.Author.Tests.{le-leb, lt-leb, eq-eqb, ne-eqb, eqb-false}
 use Rattle.shapes.specs.Kinds.{callKind}
 use Rattle.wire.specs.Wire.{big}
 use Rattle.program.specs.Table.{beyond, nodeLimit, kindCount}
@@ -116,13 +116,12 @@ pub record Shaped (kind : ℕ) (s counts : List ℕ) (n defs l w k : ℕ) : Type
 pub shaped : {kind : ℕ} {s counts : List ℕ} {n defs l w k : ℕ} → n < nodeLimit → Form kind l w k → Shaped kind s counts n defs l w k
 unfolding callNumber
 shaped {kind} {s} {counts} h f =
-    let a = f .known in
-    let b : kind < kindCount = omega arith in
-    let c : kind ≡ callKind → ⊥ = λ e. omega arith in
+    let b = f .known in
+    let c = eqb-false kind callKind (f .plain) in
     record {
       room = h;
       known = b;
-      called = rw (ne-eqb kind callKind c);
+      called = rw (f .plain);
       lead = f .lead;
       width = f .width;
       kids = same-kids kind (getD counts (getD s 0 0) 0) 0 b (λ e. absurd (c e)) ∙ f .kids;
@@ -183,7 +182,7 @@ module _ {counts : List ℕ} {n defs : ℕ} {m m′ : Taken} {r : Read} where
 
 -- ---- a field's body: its kind, and its parts where it has the right length
 pub form : (kind : ℕ) → kind < callKind → Form kind (leadOf kind) (widthOf kind) (kidsOf kind 0)
-form kind h = record { known = h; lead = refl; width = refl; kids = refl }
+form kind h = record { known = omega arith; plain = ne-eqb kind callKind (λ z. omega arith); lead = refl; width = refl; kids = refl }
 
 pub record Parts (b : List ℕ) (l w i c : ℕ) (ks : List ℕ) : Type 0 where
   pub item : itemOf l (drop 1 b) ≡ i

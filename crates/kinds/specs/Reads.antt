@@ -1,10 +1,11 @@
 -- What reading a node comes to. Internal: no contract of a C function cites it. Definitions only: nothing is assumed.
 use mathlib.Core.Path.{_≡_}
-use mathlib.Core.Bool.{Bool}
+use mathlib.Core.Bool.{Bool, false}
 use mathlib.Core.List.{List}
 use Prim.Native.Nat.{ℕ, _<_}
 use lib.ListN.{getD, drop}
-use Rattle.program.specs.Table.{nodeLimit}
+use lib.Dec.{eqb}
+use Rattle.program.specs.Table.{nodeLimit, kindCount}
 use Rattle.shapes.specs.Kinds.{callKind}
 use Rattle.shapes.specs.Shapes.{leadOf, widthOf, kidsOf}
 use Rattle.nodes.specs.declared.Node.{Node}
@@ -19,7 +20,8 @@ nodeFrom counts b = nodeIn (getD b 0 0) (getD counts (getD (drop 1 b) 0 0) 0) (d
 
 -- what a kind that is no call asks for: the item that stands first, how many bytes it has, how many children follow
 pub record Form (kind l w k : ℕ) : Type 0 where
-  pub known : kind < callKind
+  pub known : kind < kindCount
+  pub plain : eqb kind callKind ≡ false
   pub lead : leadOf kind ≡ l
   pub width : widthOf kind ≡ w
   pub kids : kidsOf kind 0 ≡ k

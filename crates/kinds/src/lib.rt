@@ -5,8 +5,8 @@ ghost use mathlib.Core.List.{List};
 ghost use Prim.Native.Nat.{ℕ, _<_, _≤_};
 ghost use lib.ListN.{length, getD};
 ghost use Rattle.program.specs.Table.{nodeLimit};
-ghost use Rattle.shapes.specs.Shapes.{byteValues, noItem, operatorItem};
-ghost use Rattle.shapes.specs.Kinds.{constantKind, parameterKind, variableKind, senseKind, repKind, nbrKind, rangeKind, foldByKind, callKind};
+ghost use Rattle.shapes.specs.Shapes.{byteValues, noItem, operatorItem, slotItem};
+ghost use Rattle.shapes.specs.Kinds.{constantKind, parameterKind, variableKind, senseKind, repKind, nbrKind, foldByKind, callKind};
 ghost use Rattle.kinds.specs.Taken.{takenOf};
 ghost use Rattle.kinds.specs.Reads.{Form, readOf, ReadsNode, ReadsLeaf, ReadsKids, ReadsSlot, ReadsSlotOnly, ReadsKept};
 
@@ -208,9 +208,9 @@ pub fn nbr(
     given(0, shapes::NBR, slot, 1, x, 0, 0)
 }
 
-// The slot of an nbr-range.
-pub fn range(b: &[u8], slots: &mut [bool; layout::BYTES]) -> Read
-    requires { ⌜ (getD (now b) 0 0 ≡ rangeKind) × (length (now slots) ≡ byteValues) ⌝ }
+// The slot of an nbr-range or an nbr-lag.
+pub fn measure(kind: u8, b: &[u8], slots: &mut [bool; layout::BYTES]) -> Read
+    requires { ⌜ (getD (now b) 0 0 ≡ kind) × Form kind slotItem 1 0 × (length (now slots) ≡ byteValues) ⌝ }
     ensures { λ r. ⌜ ReadsSlotOnly (now (b .entry)) (now (slots .entry)) r (now (slots .exit)) ⌝ }
 {
     if b.len() != 2 {
@@ -226,7 +226,7 @@ pub fn range(b: &[u8], slots: &mut [bool; layout::BYTES]) -> Read
     if taken::take(true, item, slots) {
         return no_node(5);
     }
-    given(0, shapes::RANGE, item, 0, 0, 0, 0)
+    given(0, kind, item, 0, 0, 0, 0)
 }
 
 // The definition that a fold is by, and two children.

@@ -30,8 +30,11 @@ pub const ROWS: usize = 2 * DEVICES + 1;
 
 pub const BLOCK: usize = HEARD + ROWS * ROW;
 
-// What a round reads of them: those up to the messages.
-pub const OWN: usize = PENDING;
+// What a round reads of them: all but the messages, with the ages where those begin.
+pub const OWN: usize = PENDING + DEVICES;
+
+// The ages in that.
+pub const LAGS: usize = PENDING;
 
 // A network.
 pub const CELLS: usize = DEVICES * BLOCK;

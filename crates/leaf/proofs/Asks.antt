@@ -11,8 +11,8 @@ use lib.IntN.{ℤ, pos}
 use borrow.Author.Tests.{eqb-true, eqb-false, ltb-true, ltb-false}
 use Rattle.program.specs.Table.{nodeLimit}
 use Rattle.round.specs.Round.{reps}
-use Rattle.words.specs.Form.{operatorForm, senseForm, repForm, ifForm, callForm, muxForm, foldByForm, foldForm, leastForm, pairForm, nbrForm, rangeForm, fieldIfForm}
-use Rattle.words.specs.Form.{fieldOperatorForm, leafForms, numberForms, fieldForms, forms}
+use Rattle.words.specs.Form.{operatorForm, senseForm, repForm, ifForm, callForm, muxForm, foldByForm, foldForm, leastForm, pairForm}
+use Rattle.words.specs.Form.{leafForms, numberForms, fieldForms}
 use Rattle.words.specs.Word.{form, p1, p2, count, word}
 use Rattle.words.specs.Trees.{treeAt}
 use Rattle.words.specs.Sound.{Num, Fld, Arg, Sorted, Sound}
@@ -101,7 +101,3 @@ is-fold {k} {f} e h l m a b c = go (eqb f leastForm) (eqb f foldByForm) refl ref
     go true q i j = inl (eqb-true f leastForm i)
     go false true i j = inr (inl (eqb-true f foldByForm j))
     go false false i j = inr (inr (left f h l m (eqb-false f leastForm i) (eqb-false f foldByForm j) (λ q. a (e ∙ q)) (λ q. b (e ∙ q)) (λ q. c (e ∙ q))))
-
--- a form of a field that is none of the three before it
-pub is-operator : {k f : ℕ} → k ≡ f → fieldForms ≤ f → f < forms → (k ≡ nbrForm → ⊥) → (k ≡ rangeForm → ⊥) → (k ≡ fieldIfForm → ⊥) → f ≡ fieldOperatorForm
-is-operator e l h p q r = omega arith

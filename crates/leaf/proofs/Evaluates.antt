@@ -1,14 +1,14 @@
 -- What evaluating node n does, by its form, over a sound table. Assumes nothing.
-use mathlib.Core.Path.{_≡_, refl, ap, _∙_}
+use mathlib.Core.Path.{_≡_, refl, sym, ap, _∙_}
 use mathlib.Core.Bool.{Bool, true, false, cond}
 use mathlib.Core.List.{List, [], _∷_}
 use mathlib.Core.Logic.{inl, inr}
 use mathlib.Core.Option.{none, some}
-use Prim.Native.Nat.{ℕ, _<_}
+use Prim.Native.Nat.{ℕ, _≤_, _<_}
 use lib.ListN.{getD}
 use native.Mathlib.Omega.{arith}
-use lib.Dec.{ltb}
-use borrow.Author.Tests.{lt-ltb}
+use lib.Dec.{eqb, ltb}
+use borrow.Author.Tests.{lt-ltb, eqb-true, eqb-false}
 use lib.IntN.{ℤ, pos}
 use Rattle.number.specs.Number.{operatorOf, eqZ, mark}
 use Rattle.field.specs.Field.{Field}
@@ -16,14 +16,14 @@ use Rattle.network.specs.Network.{sensorsAt}
 use Rattle.program.specs.Table.{nodeLimit}
 use Rattle.program.specs.Tree.{Expr, operator}
 use Rattle.round.specs.Round.{State, Outcome, number, field, done, thenValue, thenNumber, thenField, numberOf, fieldOf, operated, onNumbers, folded, isTrue, sensed}
-use Rattle.round.specs.Round.{heardIn, rangeIn, stored, sending, reps, erased, arguments, eval}
+use Rattle.round.specs.Round.{heardIn, rangeIn, lagIn, stored, sending, reps, erased, arguments, eval}
 use Rattle.words.specs.Form.{constantForm, parameterForm, variableForm, operatorForm, senseForm, repForm, ifForm, muxForm, foldByForm, callForm, foldForm, leastForm}
-use Rattle.words.specs.Form.{pairForm, nbrForm, rangeForm, fieldIfForm, fieldOperatorForm}
+use Rattle.words.specs.Form.{pairForm, nbrForm, rangeForm, lagForm, fieldIfForm, fieldOperatorForm, fieldForms, forms}
 use Rattle.words.specs.Word.{form, item, p1, p2, p3, p4, body, count, constantOf, word}
 use Rattle.words.specs.Trees.{treeAt, argOf}
 use Rattle.words.specs.Sound.{Sorted, Right, Sound}
 use Rattle.words.proofs.Trees.{tree-lit, tree-param, tree-var, tree-pair, tree-oper, tree-sense, tree-rep, tree-if, tree-mux, tree-fold, tree-call, tree-foldop}
-use Rattle.words.proofs.Trees.{tree-least, tree-nbr, tree-range, tree-iff, tree-operf}
+use Rattle.words.proofs.Trees.{tree-least, tree-nbr, tree-range, tree-lag, tree-iff, tree-operf}
 use Rattle.apply.specs.State.{lessens}
 use Rattle.apply.proofs.Folding.{then-same}
 use Rattle.leaf.specs.Asked.{Number, IsField, Folding, fourthOn, thirdOn, secondOn}
@@ -177,10 +177,25 @@ module _ {ws us : List ℕ} {st : List ℤ} {n : ℕ} (q : IsField ws us st n) (
   unfolding eval
   ev-nbr z o a eo ea = let r = field-rules q .nbr z in rw (eo, ea) (ap (λ (x : Expr). eval here x env s) (tree-nbr ws n z (r .0)))
 
-  pub ev-range : form (word ws n) ≡ rangeForm → (o : ℕ) → o ≡ item (word ws n)
-      → ev ws n here env s ≡ done (field (rangeIn here o)) (sending o (pos 0) s)
+  ev-range : form (word ws n) ≡ rangeForm → (o : ℕ) → o ≡ item (word ws n) → ev ws n here env s ≡ done (field (rangeIn here o)) (sending o (pos 0) s)
   unfolding eval
-  ev-range z o eo = rw (eo) (ap (λ (x : Expr). eval here x env s) (tree-range ws n z))
+  ev-range z o eo = rw eo (ap (λ (x : Expr). eval here x env s) (tree-range ws n z))
+
+  ev-lag : form (word ws n) ≡ lagForm → (o : ℕ) → o ≡ item (word ws n) → ev ws n here env s ≡ done (field (lagIn here o)) (sending o (pos 0) s)
+  unfolding eval
+  ev-lag z o eo = rw eo (ap (λ (x : Expr). eval here x env s) (tree-lag ws n z))
+
+  -- what is no nbr, no if and no operator is an nbr-lag or else an nbr-range
+  pub ev-measure : (k o : ℕ) → k ≡ form (word ws n) → o ≡ item (word ws n) → (k ≡ nbrForm → ⊥) → (k ≡ fieldIfForm → ⊥) → (k ≡ fieldOperatorForm → ⊥)
+      → ev ws n here env s ≡ done (field (cond (eqb k lagForm) (lagIn here o) (rangeIn here o))) (sending o (pos 0) s)
+  ev-measure k o ek eo nb fi op = go (eqb k lagForm) refl
+    where
+      is-range : (k f : ℕ) → k ≡ f → fieldForms ≤ f → f < forms → (k ≡ nbrForm → ⊥) → (k ≡ lagForm → ⊥) → (k ≡ fieldIfForm → ⊥) → (k ≡ fieldOperatorForm → ⊥) → f ≡ rangeForm
+      is-range k f e l h p q r t = omega arith
+
+      go : (b : Bool) → eqb k lagForm ≡ b → ev ws n here env s ≡ done (field (cond b (lagIn here o) (rangeIn here o))) (sending o (pos 0) s)
+      go true b = ev-lag (sym ek ∙ eqb-true k lagForm b) o eo
+      go false b = ev-range (is-range k _ ek (q .sort) (field-rules q .known) nb (eqb-false k lagForm b) fi op) o eo
 
   pub ev-iff : form (word ws n) ≡ fieldIfForm → (a b c : ℕ) → a ≡ p1 (word ws n) → b ≡ p2 (word ws n) → c ≡ p3 (word ws n)
       → ev ws n here env s ≡ thenNumber (ev ws a here env s) (λ x s1. cond (isTrue x)

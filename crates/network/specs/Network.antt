@@ -77,7 +77,7 @@ anyPresent (z ∷ l) = not (eqZ z mark) || anyPresent l
 abbrev pub slotsFrom : List ℤ → ℕ → List ℤ
 slotsFrom block b = row block (heardAt b + 1) 15
 
--- L1: "absent or 0 to 2"
+-- L1: ".. 0 to 2", of an age that is not absent
 abbrev pub isAge : ℤ → Bool
 isAge z = within (pos 0) (pos 2) z
 

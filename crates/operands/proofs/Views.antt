@@ -8,12 +8,13 @@ use lib.ListN.{getD}
 use lib.Dec.{eqb, ltb}
 use borrow.Author.Tests.{eqb-true, eqb-false, ltb-true, ltb-false}
 use Rattle.number.specs.Number.{operatorOf}
-use Rattle.program.specs.Tree.{constant, parameter, variable, operator, sense, rep, branch, mux, nbr, range, foldOp, foldDef, call}
-use Rattle.words.specs.Form.{constantForm, parameterForm, variableForm, operatorForm, senseForm, repForm, ifForm, muxForm, foldByForm, callForm, foldForm, nbrForm, rangeForm, fieldIfForm}
+use Rattle.program.specs.Tree.{constant, parameter, variable, operator, sense, rep, branch, mux, nbr, range, lag, foldOp, foldDef, call}
+use Rattle.words.specs.Form.{constantForm, parameterForm, variableForm, operatorForm, senseForm, repForm, ifForm, muxForm, foldByForm, callForm, foldForm, nbrForm, rangeForm, lagForm, fieldIfForm}
 use Rattle.words.specs.Form.{fieldOperatorForm, fieldForms, forms}
 use Rattle.words.specs.Word.{form, item, p1, p2, p3, p4, body, count, constantOf, word}
 use Rattle.words.specs.Trees.{treeAt}
-use Rattle.words.proofs.Trees.{tree-lit, tree-param, tree-var, tree-oper, tree-sense, tree-rep, tree-if, tree-mux, tree-fold, tree-call, tree-foldop, tree-nbr, tree-range, tree-iff, tree-operf}
+use Rattle.words.proofs.Trees.{tree-lit, tree-param, tree-var, tree-oper, tree-sense, tree-rep, tree-if, tree-mux, tree-fold, tree-call, tree-foldop, tree-nbr, tree-range, tree-lag}
+use Rattle.words.proofs.Trees.{tree-iff, tree-operf}
 use Rattle.operands.specs.Formed.{checkedForms, widths, width, operand, part, Formed}
 
 -- ---- of a formed node: one case for each form, with the operands as parts
@@ -31,6 +32,7 @@ pub data View (ws : List ℕ) (n w : ℕ) : Type 0 where
   is-fold : form w ≡ foldForm → treeAt ws n ≡ foldOp n (operatorOf (item w)) (treeAt ws (operand w 0)) (treeAt ws (operand w 1)) → View ws n w
   is-nbr : form w ≡ nbrForm → treeAt ws n ≡ nbr (item w) (treeAt ws (operand w 0)) → View ws n w
   is-range : form w ≡ rangeForm → treeAt ws n ≡ range (item w) → View ws n w
+  is-lag : form w ≡ lagForm → treeAt ws n ≡ lag (item w) → View ws n w
   is-field-if : form w ≡ fieldIfForm → treeAt ws n ≡ branch (treeAt ws (operand w 0)) (treeAt ws (operand w 1)) (treeAt ws (operand w 2)) → View ws n w
   is-field-operator : form w ≡ fieldOperatorForm → treeAt ws n ≡ operator n (operatorOf (item w)) (treeAt ws (operand w 0)) (treeAt ws (operand w 1)) → View ws n w
 
@@ -92,6 +94,7 @@ module _ {ws : List ℕ} {n : ℕ} (f : Formed ws n) where
       step foldForm l (λ h. is-fold h (tree-foldop ws n h (op 0 foldForm h refl) (op 1 foldForm h refl))) λ l.
       step nbrForm (field l) (λ h. is-nbr h (tree-nbr ws n h (op 0 nbrForm h refl))) λ l.
       step rangeForm l (λ h. is-range h (tree-range ws n h)) λ l.
+      step lagForm l (λ h. is-lag h (tree-lag ws n h)) λ l.
       step fieldIfForm l (λ h. is-field-if h (tree-iff ws n h (op 0 fieldIfForm h refl) (op 1 fieldIfForm h refl) (op 2 fieldIfForm h refl))) λ l.
       let h : form (word ws n) ≡ fieldOperatorForm = omega (arith, f .known) in
       is-field-operator h (tree-operf ws n h (op 0 fieldOperatorForm h refl) (op 1 fieldOperatorForm h refl))

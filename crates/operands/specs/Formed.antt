@@ -9,7 +9,7 @@ use lib.Dec.{eqb, ltb}
 use Rattle.program.specs.Table.{nodeLimit}
 use Rattle.program.specs.Tree.{Expr, nothing}
 use Rattle.bits.specs.Bits.{hasBit, bitsOf}
-use Rattle.words.specs.Form.{constantForm, parameterForm, variableForm, repForm, foldByForm, callForm, nbrForm, rangeForm, fieldForms, forms}
+use Rattle.words.specs.Form.{constantForm, parameterForm, variableForm, repForm, foldByForm, callForm, nbrForm, rangeForm, lagForm, fieldForms, forms}
 use Rattle.words.specs.Word.{nodeNumbers, form, count, word}
 use Rattle.words.specs.Trees.{treeAt}
 
@@ -22,8 +22,8 @@ abbrev pub widths : List ℕ
 widths =
     -- constant, parameter, variable, operator, sense, rep, if, mux, fold by definition, call, fold by operator
     0 ∷ 0 ∷ 0 ∷ 2 ∷ 1 ∷ 2 ∷ 3 ∷ 3 ∷ 2 ∷ 0 ∷ 2 ∷ 0 ∷ 0 ∷ 0 ∷ 0 ∷ 0
-    -- nbr, nbr-range, if and operator on fields
-    ∷ 1 ∷ 0 ∷ 3 ∷ 2 ∷ 0 ∷ 0 ∷ 0 ∷ 0 ∷ 0 ∷ 0 ∷ 0 ∷ 0 ∷ 0 ∷ 0 ∷ 0 ∷ 0
+    -- nbr, nbr-range, nbr-lag, if and operator on fields
+    ∷ 1 ∷ 0 ∷ 0 ∷ 3 ∷ 2 ∷ 0 ∷ 0 ∷ 0 ∷ 0 ∷ 0 ∷ 0 ∷ 0 ∷ 0 ∷ 0 ∷ 0 ∷ 0
     ∷ []
 
 -- the same as one number, two bits a form
@@ -45,7 +45,7 @@ operand w j = w / 2 ^ (9 + 10 * j) % nodeNumbers
 -- the forms of which a word says more than what it names, a list each: those that name no node; that have a body; that bind a variable, their item, in operand 1; that
 -- read a variable, their item; that are spatial of themselves
 abbrev pub aloneSet : ℕ
-aloneSet = bitsOf (constantForm ∷ parameterForm ∷ variableForm ∷ rangeForm ∷ [])
+aloneSet = bitsOf (constantForm ∷ parameterForm ∷ variableForm ∷ rangeForm ∷ lagForm ∷ [])
 
 abbrev pub bodySet : ℕ
 bodySet = bitsOf (foldByForm ∷ callForm ∷ [])
@@ -57,7 +57,7 @@ abbrev pub readSet : ℕ
 readSet = bitsOf (variableForm ∷ [])
 
 abbrev pub spatialSet : ℕ
-spatialSet = bitsOf (repForm ∷ nbrForm ∷ rangeForm ∷ [])
+spatialSet = bitsOf (repForm ∷ nbrForm ∷ rangeForm ∷ lagForm ∷ [])
 
 abbrev pub isAlone : ℕ → Bool
 isAlone w = hasBit (form w) aloneSet

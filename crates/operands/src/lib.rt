@@ -23,7 +23,8 @@ const WIDTHS: u64 = (2 << (2 * unpack::OPERATOR))
 pub const ALONE: u32 = (1 << unpack::CONSTANT)
     | (1 << unpack::PARAMETER)
     | (1 << unpack::VARIABLE)
-    | (1 << unpack::RANGE);
+    | (1 << unpack::RANGE)
+    | (1 << unpack::LAG);
 
 // that have a body,
 pub const BODY: u32 = (1 << unpack::FOLD_BY) | (1 << unpack::CALL);
@@ -35,7 +36,10 @@ pub const BIND: u32 = 1 << unpack::REP;
 pub const READ: u32 = 1 << unpack::VARIABLE;
 
 // that are spatial of themselves.
-pub const SPATIAL: u32 = (1 << unpack::REP) | (1 << unpack::NBR) | (1 << unpack::RANGE);
+pub const SPATIAL: u32 = (1 << unpack::REP)
+    | (1 << unpack::NBR)
+    | (1 << unpack::RANGE)
+    | (1 << unpack::LAG);
 
 // Whether a word's form is in a set.
 pub fn is(w: u64, set: u32) -> bool

@@ -77,6 +77,7 @@ module _ (ds : List Definition) (es : List Expr) (n item a b c d constant : ℕ)
           fold = λ l g r. let q = r .isParts (λ z. omega arith) in rw (q .isForm, q .isItem, q .isP1, q .isP2);
           foldBy = λ l g r. let q = r .isParts (λ z. omega arith) in rw (q .isForm, q .isBody, q .isP1, q .isP2, g refl);
           call = λ l g r. calls count l g r;
+          lag = λ l g r. let q = r .isParts (λ z. omega arith) in rw (q .isForm, q .isItem);
         }
         kind
       where
@@ -119,6 +120,7 @@ module _ (ds : List Definition) (es : List Expr) (n item a b c d constant : ℕ)
         fold = refl;
         foldBy = refl;
         call = refl;
+        lag = refl;
       }
       kind
 
@@ -143,6 +145,7 @@ module _ (ds : List Definition) (es : List Expr) (n item a b c d constant : ℕ)
         fold = λ l. refl;
         foldBy = λ l. refl;
         call = λ l. calls count l;
+        lag = λ l. refl;
       }
       kind
     where

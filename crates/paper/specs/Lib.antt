@@ -2,3 +2,4 @@ pub mod Programs
 pub mod Paper
 pub mod Needed
 pub mod Fading
+pub mod Lags

@@ -12,7 +12,7 @@ use borrow.Author.Tests.{ltb-true, ltb-false}
 use Rattle.number.specs.Number.{operatorOf}
 use Rattle.program.specs.Table.{Node, Definition, Table, noDefinition}
 use Rattle.program.specs.Tree.{Expr, nothing, treeOf, grown, trees, tree, isField, sortBroken}
-use Rattle.program.specs.Sorts.{aNumber, aField, HasSort, T-nothing, T-constant, T-parameter, T-variable, T-range}
+use Rattle.program.specs.Sorts.{aNumber, aField, HasSort, T-nothing, T-constant, T-parameter, T-variable, T-range, T-lag}
 use Rattle.program.proofs.Bodied.{Bodied}
 use Rattle.program.proofs.Sorting.{Sorted, as-number, sort-operator, sort-sense, sort-rep, sort-branch, sort-mux, sort-nbr, sort-foldOp, sort-foldDef, sort-call}
 
@@ -28,7 +28,7 @@ module _ (ds : List Definition) (es : List Expr) (n : ℕ) (vs : List ℕ) (s : 
   child : (i : ℕ) → Sorted (getD es (getD vs i 0) nothing)
   child i = s (getD vs i 0)
 
-  -- one clause for each of the thirteen kinds, and one for what is none
+  -- one clause for each of the fourteen kinds, and one for what is none
   sort-tree : (kind : ℕ) → (Bodied kind → HasSort (getD es (getD ds (getD vs 0 0) noDefinition .body) nothing) aNumber)
       → sortBroken (treeOf ds es n (record { kind = kind; values = vs })) ≡ false → Sorted (treeOf ds es n (record { kind = kind; values = vs }))
   unfolding treeOf
@@ -46,7 +46,8 @@ module _ (ds : List Definition) (es : List Expr) (n : ℕ) (vs : List ℕ) (s : 
   sort-tree (suc (suc (suc (suc (suc (suc (suc (suc (suc (suc (suc zero))))))))))) f q = sort-foldDef (f (inl refl)) (child 1) (child 2) q
   sort-tree (suc (suc (suc (suc (suc (suc (suc (suc (suc (suc (suc (suc zero)))))))))))) f q =
       sort-call (f (inr refl)) (argument 1) (argument 2) (argument 3) (argument 4) q
-  sort-tree (suc (suc (suc (suc (suc (suc (suc (suc (suc (suc (suc (suc (suc k))))))))))))) f q = (aNumber, T-nothing)
+  sort-tree (suc (suc (suc (suc (suc (suc (suc (suc (suc (suc (suc (suc (suc zero))))))))))))) f q = (aField, T-lag)
+  sort-tree (suc (suc (suc (suc (suc (suc (suc (suc (suc (suc (suc (suc (suc (suc k)))))))))))))) f q = (aNumber, T-nothing)
 
 -- a tree stays what it is while others are built behind it
 grown-first : (ds : List Definition) (xs : List Node) (es : List Expr) (i : ℕ) → i < length es → getD (grown ds es xs) i nothing ≡ getD es i nothing

@@ -153,7 +153,14 @@ same-items kind m n h f = go (eqb kind 12) refl
     go : (b : Bool) → eqb kind 12 ≡ b → itemsOf kind m ≡ itemsOf kind n
     go true q = ap (itemsOf kind) (f (eqb-true kind 12 q))
     go false q =
-        let d : kind ≡ 12 → ⊥ = eqb-false kind 12 q in
-        let l : kind < 12 = omega arith in
-        List·getD-append (take 12 (kinds 0)) ((definition ∷ replicate m child) ∷ []) [] kind l
-        ∙ sym (List·getD-append (take 12 (kinds 0)) ((definition ∷ replicate n child) ∷ []) [] kind l)
+        past (eqb kind 13) refl
+      where
+        -- nbr-lag behind it, or one of those before it
+        past : (b : Bool) → eqb kind 13 ≡ b → itemsOf kind m ≡ itemsOf kind n
+        past true r = rw (eqb-true kind 13 r)
+        past false r =
+            let d : kind ≡ 12 → ⊥ = eqb-false kind 12 q in
+            let e : kind ≡ 13 → ⊥ = eqb-false kind 13 r in
+            let l : kind < 12 = omega arith in
+            List·getD-append (take 12 (kinds 0)) ((definition ∷ replicate m child) ∷ (slot ∷ []) ∷ []) [] kind l
+            ∙ sym (List·getD-append (take 12 (kinds 0)) ((definition ∷ replicate n child) ∷ (slot ∷ []) ∷ []) [] kind l)

@@ -28,6 +28,7 @@ pub mod ShownReads
 pub mod ShownUses
 pub mod ShownCheck
 pub mod ShownCost
+pub mod ShownLag
 pub mod ShownSortRules
 pub mod ShownTreeRules
 pub mod ShownBytes

@@ -6,9 +6,9 @@ use Prim.Native.Nat.{ℕ}
 use lib.Dec.{ltb}
 use borrow.Author.Tests.{ltb-true, lt-ltb}
 use Rattle.program.specs.Table.{Definition, Table, among}
-use Rattle.program.specs.Tree.{Expr, nothing, constant, parameter, variable, operator, sense, rep, branch, mux, nbr, range, foldOp, foldDef, call, tree, misread}
+use Rattle.program.specs.Tree.{Expr, nothing, constant, parameter, variable, operator, sense, rep, branch, mux, nbr, range, lag, foldOp, foldDef, call, tree, misread}
 use Rattle.program.specs.Check.{misreadIn}
-use Rattle.program.specs.Scope.{Scoped, S-nothing, S-constant, S-parameter, S-variable, S-operator, S-sense, S-rep, S-branch, S-mux, S-nbr, S-range, S-foldOp, S-foldDef, S-call}
+use Rattle.program.specs.Scope.{Scoped, S-nothing, S-constant, S-parameter, S-variable, S-operator, S-sense, S-rep, S-branch, S-mux, S-nbr, S-range, S-lag, S-foldOp, S-foldDef, S-call}
 use Rattle.program.proofs.Names.{among-mem, mem-among}
 use Rattle.program.proofs.Offending.{cons-nil, both-nil, nil-both}
 
@@ -40,6 +40,7 @@ module _ (count : ℕ) where
       S-mux (read-scoped kept c (b .0)) (read-scoped kept x (b .1)) (read-scoped kept y (b .2))
   read-scoped kept (nbr i e) q = S-nbr (read-scoped kept e q)
   read-scoped kept (range i) q = S-range
+  read-scoped kept (lag i) q = S-lag
   read-scoped kept (foldOp n o i f) q =
       let b = both-nil (misread count kept i) (misread count kept f) q in S-foldOp (read-scoped kept i (b .0)) (read-scoped kept f (b .1))
   read-scoped kept (foldDef d i f) q =
@@ -62,6 +63,7 @@ module _ (count : ℕ) where
   scoped-read (S-mux h k l) = nil-both (scoped-read h) (nil-both (scoped-read k) (scoped-read l))
   scoped-read (S-nbr h) = scoped-read h
   scoped-read S-range = refl
+  scoped-read S-lag = refl
   scoped-read (S-foldOp h k) = nil-both (scoped-read h) (scoped-read k)
   scoped-read (S-foldDef h k) = nil-both (scoped-read h) (scoped-read k)
   scoped-read (S-call h k l m) = nil-both (scoped-read h) (nil-both (scoped-read k) (nil-both (scoped-read l) (scoped-read m)))

@@ -23,18 +23,19 @@ of-each-kind =
     ∷ (12 ∷ 0 ∷ 3 ∷ 4 ∷ [])
     ∷ (12 ∷ 1 ∷ [])
     ∷ (12 ∷ 2 ∷ 3 ∷ 4 ∷ 5 ∷ 6 ∷ [])
+    ∷ (13 ∷ 15 ∷ [])
     ∷ []
 
-passes : map (λ s. behind (node s)) of-each-kind ≡ replicate 15 pass
+passes : map (λ s. behind (node s)) of-each-kind ≡ replicate 16 pass
 unfolding opened
 passes = refl
 
 -- "wrong length": one byte less, one byte more
-one-byte-less : map (λ s. behind (node (take (length s - 1) s))) of-each-kind ≡ replicate 15 (1, 10)
+one-byte-less : map (λ s. behind (node (take (length s - 1) s))) of-each-kind ≡ replicate 16 (1, 10)
 unfolding opened
 one-byte-less = refl
 
-one-byte-more : map (λ s. behind (node (s ++ 6 ∷ []))) of-each-kind ≡ replicate 15 (1, 10)
+one-byte-more : map (λ s. behind (node (s ++ 6 ∷ []))) of-each-kind ≡ replicate 16 (1, 10)
 unfolding opened
 one-byte-more = refl
 
@@ -55,7 +56,7 @@ unfolding opened
 out-of-range = refl
 
 -- "unknown kind": 3, whatever the length
-unknown-kind : map (λ s. behind (node s)) ((13 ∷ []) ∷ (13 ∷ 3 ∷ []) ∷ (13 ∷ 0 ∷ 3 ∷ 4 ∷ []) ∷ (255 ∷ 1 ∷ []) ∷ []) ≡ replicate 4 (3, 10)
+unknown-kind : map (λ s. behind (node s)) ((14 ∷ []) ∷ (14 ∷ 3 ∷ []) ∷ (14 ∷ 0 ∷ 3 ∷ 4 ∷ []) ∷ (255 ∷ 1 ∷ []) ∷ []) ≡ replicate 4 (3, 10)
 unfolding opened
 unknown-kind = refl
 

@@ -24,11 +24,11 @@ unfolding opened
 node-257 = refl
 
 -- it is 2 before its kind, its length, its range and its names; in a table of 255 nodes the same bodies get what they deserve
-holding : ℕ → Table
+unfoldable pub holding : ℕ → Table
 holding n = record { nodes = replicate n (record { kind = 1; values = 0 ∷ [] }); definitions = [] }
 
 abbrev rows : ℕ → List ℕ
-rows n = map firstOf (nodeRows (holding n) 1 (0 ∷ []) ∷ nodeRows (holding n) 13 [] ∷ nodeRows (holding n) 1 [] ∷ nodeRows (holding n) 1 (4 ∷ []) ∷ nodeRows (holding n) 12 (0 ∷ []) ∷ [])
+rows n = map firstOf (nodeRows (holding n) 1 (0 ∷ []) ∷ nodeRows (holding n) 14 [] ∷ nodeRows (holding n) 1 [] ∷ nodeRows (holding n) 1 (4 ∷ []) ∷ nodeRows (holding n) 12 (0 ∷ []) ∷ [])
 
 two-comes-first : (rows 256 ≡ replicate 5 2) × (rows 255 ≡ 0 ∷ 3 ∷ 1 ∷ 3 ∷ 4 ∷ [])
 unfolding opened holding

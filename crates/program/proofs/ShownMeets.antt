@@ -53,9 +53,9 @@ unfolding opened
 definitions-33 m = let h : 33 ≤ 32 = m .fewDefinitions in absurd (omega arith)
 
 -- "unknown kind"; "a byte or constant out of its range"; "parameter count (0–4)"
-kind-13 : Meets (is 13 [] ∷ []) 0 → ⊥
+kind-14 : Meets (is 14 [] ∷ []) 0 → ⊥
 unfolding opened
-kind-13 m = let h : 13 < 13 = m .known _ (List·Memᴰ·head refl) in absurd (omega arith)
+kind-14 m = let h : 14 < 14 = m .known _ (List·Memᴰ·head refl) in absurd (omega arith)
 
 beyond-range : InRange (parameter ∷ []) (4 ∷ []) → ⊥
 beyond-range (more h none) = parameter-4 h

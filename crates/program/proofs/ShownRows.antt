@@ -94,7 +94,7 @@ unfolding opened
 no-main = (refl, refl, refl)
 
 -- "bytes after it": whole fields, cut ones, one byte; they are not read (D1). The main node's own rows come first
-bytes-after-main : map (λ s. check (number 0 ++ main 0 ++ s)) ([] ∷ number 0 ∷ main 0 ∷ node (13 ∷ []) ∷ (1 ∷ 0 ∷ 5 ∷ []) ∷ field 4 [] ∷ (0 ∷ []) ∷ []) ≡ (0, 0) ∷ replicate 6 (6, 0)
+bytes-after-main : map (λ s. check (number 0 ++ main 0 ++ s)) ([] ∷ number 0 ∷ main 0 ∷ node (14 ∷ []) ∷ (1 ∷ 0 ∷ 5 ∷ []) ∷ field 4 [] ∷ (0 ∷ []) ∷ []) ≡ (0, 0) ∷ replicate 6 (6, 0)
 unfolding opened
 bytes-after-main = refl
 

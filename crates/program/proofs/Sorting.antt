@@ -6,7 +6,7 @@ use borrow.Author.Tests.{not-false}
 use Rattle.number.specs.Number.{Operator}
 use Rattle.program.specs.Tree.{Expr, operator, sense, rep, branch, mux, nbr, foldOp, foldDef, call, isField, sortBroken}
 use Rattle.program.specs.Sorts.{Sort, aNumber, aField, HasSort, T-nothing, T-constant, T-parameter, T-variable, T-numbers, T-fieldLeft, T-fieldRight, T-sense}
-use Rattle.program.specs.Sorts.{T-rep, T-branch, T-mux, T-nbr, T-range, T-foldOp, T-foldDef, T-call}
+use Rattle.program.specs.Sorts.{T-rep, T-branch, T-mux, T-nbr, T-range, T-lag, T-foldOp, T-foldDef, T-call}
 use Rattle.decide.proofs.Picks.{neither, or-fails}
 
 abbrev pub isIt : Sort → Bool
@@ -29,6 +29,7 @@ field-of (T-branch c h k) = field-of h
 field-of (T-mux c h k) = refl
 field-of (T-nbr h) = refl
 field-of T-range = refl
+field-of T-lag = refl
 field-of (T-foldOp h k) = refl
 field-of (T-foldDef d h k) = refl
 field-of (T-call d h k l m) = refl
@@ -52,6 +53,7 @@ unbroken (T-branch {k = s} c h k) = rw (field-of c, field-of h, field-of k) (sam
 unbroken (T-mux c h k) = or-fails (or-fails (field-of c) (field-of h)) (field-of k)
 unbroken (T-nbr h) = field-of h
 unbroken T-range = refl
+unbroken T-lag = refl
 unbroken (T-foldOp h k) = rw (field-of h, field-of k)
 unbroken (T-foldDef d h k) = rw (field-of h, field-of k)
 unbroken (T-call d h k l m) = or-fails (or-fails (or-fails (field-of h) (field-of k)) (field-of l)) (field-of m)

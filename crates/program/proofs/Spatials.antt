@@ -2,8 +2,8 @@
 use mathlib.Core.Path.{_≡_, refl, sym}
 use mathlib.Core.Logic.{⊎-elim}
 use mathlib.Core.Bool.{Bool, true, false, _||_, true≢false}
-use Rattle.program.specs.Tree.{Expr, nothing, constant, parameter, variable, operator, sense, rep, branch, mux, nbr, range, foldOp, foldDef, call, spatial}
-use Rattle.program.specs.Spatial.{Spatial, X-rep, X-nbr, X-range, X-called, X-left, X-right, X-sense, X-ifCondition, X-ifThen, X-ifElse, X-muxCondition, X-muxThen}
+use Rattle.program.specs.Tree.{Expr, nothing, constant, parameter, variable, operator, sense, rep, branch, mux, nbr, range, lag, foldOp, foldDef, call, spatial}
+use Rattle.program.specs.Spatial.{Spatial, X-rep, X-nbr, X-range, X-lag, X-called, X-left, X-right, X-sense, X-ifCondition, X-ifThen, X-ifElse, X-muxCondition, X-muxThen}
 use Rattle.program.specs.Spatial.{X-muxElse, X-foldInitial, X-foldField, X-foldByInitial, X-foldByField, X-first, X-second, X-third, X-fourth}
 use Rattle.decide.proofs.Picks.{known, never, one-of, by-first, by-rest}
 
@@ -28,6 +28,7 @@ spatial-rules (mux c a b) q =
     (λ p. X-muxElse (spatial-rules b p)) q
 spatial-rules (nbr i e) q = X-nbr
 spatial-rules (range i) q = X-range
+spatial-rules (lag i) q = X-lag
 spatial-rules (foldOp n o i f) q = either-of (spatial i) (spatial f) (λ p. X-foldInitial (spatial-rules i p)) (λ p. X-foldField (spatial-rules f p)) q
 spatial-rules (foldDef d i f) q = either-of (spatial i) (spatial f) (λ p. X-foldByInitial (spatial-rules i p)) (λ p. X-foldByField (spatial-rules f p)) q
 spatial-rules (call d a b c e) q =
@@ -45,6 +46,7 @@ unfolding spatial
 rules-spatial X-rep = refl
 rules-spatial X-nbr = refl
 rules-spatial X-range = refl
+rules-spatial X-lag = refl
 rules-spatial (X-sense s) = rules-spatial s
 rules-spatial (X-left {n} {o} {l} {r} s) = by-first (spatial r) (rules-spatial s)
 rules-spatial (X-right {n} {o} {l} {r} s) = by-rest (spatial l) (rules-spatial s)

@@ -99,7 +99,7 @@ pub record Meets (ps : List Part) (main : ℕ) : Type 0 where
   -- "at most 256"; "at most 32"
   pub fewNodes : length (nodesOf ps) ≤ nodeLimit
   pub fewDefinitions : length (definitionsOf ps) ≤ definitionLimit
-  -- a node has one of the thirteen kinds, and the kind's items, each in its range
+  -- a node has one of the fourteen kinds, and the kind's items, each in its range
   pub known : (x : Node) → List·Memᴰ x (nodesOf ps) → x .kind < kindCount
   pub ranges : (x : Node) → List·Memᴰ x (nodesOf ps) → InRange (items x) (x .values)
   -- "parameter count (0–4)"
@@ -111,7 +111,7 @@ pub record Meets (ps : List Part) (main : ℕ) : Type 0 where
   pub mainGiven : main < length (nodesOf ps)
   -- "Each node is named exactly once"
   pub namedOnce : (k : ℕ) → k < length (nodesOf ps) → howOften k (main ∷ named (tableOf ps)) ≡ 1
-  -- "each slot by one nbr or nbr-range"
+  -- "each slot by one nbr or nbr-range", L2: or nbr-lag
   pub slotOnce : (i : ℕ) → howOften i (allNumbers slot (nodesOf ps)) ≤ 1
   -- "each variable by one rep"
   pub repOnce : (v : ℕ) → howOften v (allNumbers keeps (nodesOf ps)) ≤ 1

@@ -2,7 +2,7 @@
 use Prim.Native.Nat.{ℕ}
 use lib.IntN.{ℤ}
 use Rattle.number.specs.Number.{Operator}
-use Rattle.program.specs.Tree.{Expr, nothing, constant, parameter, variable, operator, sense, rep, branch, mux, nbr, range, foldOp, foldDef, call}
+use Rattle.program.specs.Tree.{Expr, nothing, constant, parameter, variable, operator, sense, rep, branch, mux, nbr, range, lag, foldOp, foldDef, call}
 
 -- "Sorts: .." and "Operands are numbers except ..", as rules
 pub data Sort : Type 0 where
@@ -22,6 +22,7 @@ pub data HasSort : Expr → Sort → Type 0 where
   T-mux : {c a b : Expr} → HasSort c aNumber → HasSort a aNumber → HasSort b aNumber → HasSort (mux c a b) aNumber
   T-nbr : {i : ℕ} {e : Expr} → HasSort e aNumber → HasSort (nbr i e) aField
   T-range : {i : ℕ} → HasSort (range i) aField
+  T-lag : {i : ℕ} → HasSort (lag i) aField
   T-foldOp : {n : ℕ} {o : Operator} {i f : Expr} → HasSort i aNumber → HasSort f aField → HasSort (foldOp n o i f) aNumber
   T-foldDef : {d i f : Expr} → HasSort d aNumber → HasSort i aNumber → HasSort f aField → HasSort (foldDef d i f) aNumber
   T-call : {d a b c e : Expr} → HasSort d aNumber → HasSort a aNumber → HasSort b aNumber → HasSort c aNumber → HasSort e aNumber

@@ -1,13 +1,14 @@
 -- Which trees are spatial, as rules. Definitions only: nothing is assumed.
 use Prim.Native.Nat.{ℕ}
 use Rattle.number.specs.Number.{Operator}
-use Rattle.program.specs.Tree.{Expr, operator, sense, rep, branch, mux, nbr, range, foldOp, foldDef, call}
+use Rattle.program.specs.Tree.{Expr, operator, sense, rep, branch, mux, nbr, range, lag, foldOp, foldDef, call}
 
--- "A definition is spatial if its tree holds rep, nbr, nbr-range or a call to a spatial one."
+-- "A definition is spatial if its tree holds rep, nbr, nbr-range or a call to a spatial one." L2, of nbr-lag: "It counts as spatial."
 pub data Spatial : Expr → Type 0 where
   X-rep : {v : ℕ} {i u : Expr} → Spatial (rep v i u)
   X-nbr : {i : ℕ} {e : Expr} → Spatial (nbr i e)
   X-range : {i : ℕ} → Spatial (range i)
+  X-lag : {i : ℕ} → Spatial (lag i)
   X-called : {d a b c e : Expr} → Spatial d → Spatial (call d a b c e)
   -- or holds one further down
   X-left : {n : ℕ} {o : Operator} {l r : Expr} → Spatial l → Spatial (operator n o l r)

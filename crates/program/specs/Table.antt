@@ -40,10 +40,11 @@ kinds count =
     ∷ (operator ∷ child ∷ child ∷ [])  -- 10 fold by operator
     ∷ (definition ∷ child ∷ child ∷ [])  -- 11 fold by definition
     ∷ (definition ∷ replicate count child)  -- 12 call
+    ∷ (slot ∷ [])  -- 13 nbr-lag, L2: "Node kind 13 carries a slot"
     ∷ []
 
 abbrev pub kindCount : ℕ
-kindCount = 13
+kindCount = 14
 
 -- "numbered from 0 by appearance, at most 256"; "numbered from 0, at most 32"
 abbrev pub nodeLimit : ℕ

@@ -22,6 +22,7 @@ pub data Expr : Type 0 where
   mux : Expr → Expr → Expr → Expr
   nbr : ℕ → Expr → Expr
   range : ℕ → Expr
+  lag : ℕ → Expr
   foldOp : ℕ → Operator → Expr → Expr → Expr
   foldDef : Expr → Expr → Expr → Expr
   call : Expr → Expr → Expr → Expr → Expr → Expr
@@ -51,6 +52,7 @@ treeOf ds es n x =
     ∷ foldOp n (operatorOf (v 0)) (e 1) (e 2)
     ∷ foldDef d (e 1) (e 2)
     ∷ call d (a 1) (a 2) (a 3) (a 4)
+    ∷ lag (v 0)
     ∷ [])
     (x .kind)
     nothing
@@ -66,7 +68,8 @@ trees t = grown (t .definitions) [] (t .nodes)
 abbrev pub tree : Table → ℕ → Expr
 tree t n = getD (trees t) n nothing
 
--- "Sorts: nbr and nbr-range are fields; an operator is a field if a side is; an if has its branches' one sort; all else is a number."
+-- "Sorts: nbr and nbr-range are fields; an operator is a field if a side is; an if has its branches' one sort; all else is a number." L2, of nbr-lag: "gives a field
+-- of ages"
 unfoldable pub isField : Expr → Bool
 isField nothing = false
 isField (constant z) = false
@@ -79,6 +82,7 @@ isField (branch c a b) = isField a
 isField (mux c a b) = false
 isField (nbr i e) = true
 isField (range i) = true
+isField (lag i) = true
 isField (foldOp n o i f) = false
 isField (foldDef d i f) = false
 isField (call d a b c e) = false
@@ -96,6 +100,7 @@ sortBroken (branch c a b) = isField c || not (cond (isField a) (isField b) (not 
 sortBroken (mux c a b) = isField c || isField a || isField b
 sortBroken (nbr i e) = isField e
 sortBroken (range i) = false
+sortBroken (lag i) = false
 sortBroken (foldOp n o i f) = isField i || not (isField f)
 sortBroken (foldDef d i f) = isField i || not (isField f)
 sortBroken (call d a b c e) = isField a || isField b || isField c || isField e
@@ -114,11 +119,12 @@ misread count kept (branch c a b) = misread count kept c ++ (misread count kept 
 misread count kept (mux c a b) = misread count kept c ++ (misread count kept a ++ misread count kept b)
 misread count kept (nbr i e) = misread count kept e
 misread count kept (range i) = []
+misread count kept (lag i) = []
 misread count kept (foldOp n o i f) = misread count kept i ++ misread count kept f
 misread count kept (foldDef d i f) = misread count kept i ++ misread count kept f
 misread count kept (call d a b c e) = misread count kept a ++ (misread count kept b ++ (misread count kept c ++ misread count kept e))
 
--- "A definition is spatial if its tree holds rep, nbr, nbr-range or a call to a spatial one."
+-- "A definition is spatial if its tree holds rep, nbr, nbr-range or a call to a spatial one." L2, of nbr-lag: "It counts as spatial."
 unfoldable pub spatial : Expr → Bool
 spatial nothing = false
 spatial (constant z) = false
@@ -131,6 +137,7 @@ spatial (branch c a b) = spatial c || spatial a || spatial b
 spatial (mux c a b) = spatial c || spatial a || spatial b
 spatial (nbr i e) = true
 spatial (range i) = true
+spatial (lag i) = true
 spatial (foldOp n o i f) = spatial i || spatial f
 spatial (foldDef d i f) = spatial i || spatial f
 spatial (call d a b c e) = spatial d || spatial a || spatial b || spatial c || spatial e
@@ -148,6 +155,7 @@ cost (branch c a b) = 1 + cost c + cost a + cost b
 cost (mux c a b) = 1 + cost c + cost a + cost b
 cost (nbr i e) = 1 + cost e
 cost (range i) = 1
+cost (lag i) = 1
 cost (foldOp n o i f) = 1 + cost i + cost f
 cost (foldDef d i f) = 1 + cost i + cost f + 15 * cost d
 cost (call d a b c e) = 1 + cost a + cost b + cost c + cost e + cost d

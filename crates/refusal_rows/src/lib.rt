@@ -40,9 +40,10 @@ pub fn read_node(
         shapes::IF => kinds::choice(shapes::IF, b, n, named),
         shapes::MUX => kinds::choice(shapes::MUX, b, n, named),
         shapes::NBR => kinds::nbr(b, n, named, slots),
-        shapes::RANGE => kinds::range(b, slots),
+        shapes::RANGE => kinds::measure(shapes::RANGE, b, slots),
         shapes::FOLD_BY => kinds::fold_by(b, n, defs, named),
         shapes::CALL => kinds::call(b, n, defs, counts, named),
+        shapes::LAG => kinds::measure(shapes::LAG, b, slots),
         _ => kinds::no_node(3), // unknown kind
     }
 }

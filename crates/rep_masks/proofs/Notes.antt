@@ -23,7 +23,7 @@ use Rattle.words.proofs.Trees.{tree-lit}
 use Rattle.operands.specs.Formed.{width, operand, hasBody, binds, part, partNote, Formed, Empty}
 use Rattle.operands.proofs.Below.{body-below, set-more}
 use Rattle.operands.proofs.Alone.{Alone}
-use Rattle.operands.proofs.Views.{View, is-constant, is-parameter, is-variable, is-operator, is-sense, is-rep, is-if, is-mux, is-fold-by, is-call, is-fold, is-nbr, is-range, is-field-if}
+use Rattle.operands.proofs.Views.{View, is-constant, is-parameter, is-variable, is-operator, is-sense, is-rep, is-if, is-mux, is-fold-by, is-call, is-fold, is-nbr, is-range, is-lag, is-field-if}
 use Rattle.operands.proofs.Views.{is-field-operator, view}
 use Rattle.rep_masks.specs.Masks.{Mask, Masks, ownMask, bodyMask, maskOf}
 
@@ -50,6 +50,7 @@ all-reps (is-call h e) = rw (e, h)
 all-reps (is-fold h e) = rw (e, h) (simp append-nil)
 all-reps (is-nbr h e) = rw (e, h) (simp append-nil)
 all-reps (is-range h e) = rw (e, h)
+all-reps (is-lag h e) = rw (e, h)
 all-reps (is-field-if h e) = rw (e, h) (simp append-nil)
 all-reps (is-field-operator h e) = rw (e, h) (simp append-nil)
 

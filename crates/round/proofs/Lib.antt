@@ -1,4 +1,5 @@
 pub mod After
+pub mod Own
 pub mod ShownCells
 pub mod ShownShortcuts
 pub mod ShownOrder
@@ -6,6 +7,7 @@ pub mod ShownOperators
 pub mod ShownConditions
 pub mod ShownErasing
 pub mod ShownNeighbours
+pub mod ShownLag
 pub mod ShownFolds
 pub mod ShownFired
 pub mod ShownFading

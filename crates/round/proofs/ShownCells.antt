@@ -9,11 +9,11 @@ use Rattle.field.specs.Field.{Field, from, pointwise, faultsIn}
 use Rattle.program.specs.Tree.{Expr, constant, parameter, operator, sense, rep}
 use Rattle.network.specs.Cells.{write}
 use Rattle.network.specs.Network.{sensorsAt, heardAt, pendingAt, ageAt, copies, freshBlock}
-use Rattle.round.specs.Round.{State, Outcome, operated, folded, sensed, heardIn, rangeIn, reps, erased, eval, round, message, joined, fades, older, faded, after, fired}
+use Rattle.round.specs.Round.{State, Outcome, operated, folded, sensed, heardIn, own, measured, reps, erased, eval, round, message, joined, fades, older, faded, after, fired}
 
 -- what the examples compute with
 unfoldable pub opened : ℕ → ℕ
-unfolding brought plus minus times over result faults from pointwise faultsIn copies operated folded sensed heardIn rangeIn reps erased eval round message joined fades older faded after fired
+unfolding brought plus minus times over result faults from pointwise faultsIn copies operated folded sensed heardIn measured reps erased eval round message joined fades older faded after fired
 opened n = n
 
 abbrev pub neg : ℕ → ℤ
@@ -75,7 +75,7 @@ abbrev pub parameters : List ℤ
 parameters = pos 10 ∷ pos 20 ∷ pos 30 ∷ pos 40 ∷ []
 
 abbrev pub in-state : State → Expr → Outcome
-in-state s e = eval cells e parameters s
+in-state s e = eval (own cells) e parameters s
 
 abbrev pub outcome : Expr → Outcome
 outcome e = in-state start e

@@ -5,7 +5,7 @@ use Prim.Native.Nat.{ℕ, suc}
 use lib.ListN.{replicate, drop, take}
 use lib.IntN.{pos}
 use Rattle.number.specs.Number.{mark, add, div}
-use Rattle.program.specs.Tree.{Expr, nothing, parameter, variable, operator, sense, rep, branch, mux, nbr, range, foldOp, foldDef, call}
+use Rattle.program.specs.Tree.{Expr, nothing, parameter, variable, operator, sense, rep, branch, mux, nbr, range, lag, foldOp, foldDef, call}
 use Rattle.round.specs.Round.{Outcome, number, done, erased, fired}
 use Rattle.round.proofs.ShownCells.{opened, number-of, keeps, unsent, state, start, full, cells, in-state, outcome}
 
@@ -52,7 +52,7 @@ unfolding opened
 called = refl
 
 -- nothing where there is no rep: a variable that is only read stays
-leaves : map else-taken (number-of 1 ∷ parameter 5 1 ∷ variable 5 1 ∷ range 1 ∷ nothing ∷ []) ≡ map gone (0 ∷ 0 ∷ 0 ∷ 0 ∷ 0 ∷ [])
+leaves : map else-taken (number-of 1 ∷ parameter 5 1 ∷ variable 5 1 ∷ range 1 ∷ range 15 ∷ lag 1 ∷ lag 15 ∷ nothing ∷ []) ≡ map gone (0 ∷ 0 ∷ 0 ∷ 0 ∷ 0 ∷ 0 ∷ 0 ∷ 0 ∷ [])
 unfolding opened
 leaves = refl
 

@@ -14,7 +14,7 @@ use Rattle.round.specs.Round.{State, field, done, heardIn}
 use Rattle.round.proofs.ShownCells.{opened, neg, number-of, keeps, reads, nowhere, state, outcome}
 
 -- nothing stored, and this sent
-abbrev sent : List ℤ → State
+abbrev pub sent : List ℤ → State
 sent l = state (replicate 16 mark) l
 
 -- heard in slot 1, by the cells: device 1 with 7, device 3, to which there is no link, with -1, device 16 with 0

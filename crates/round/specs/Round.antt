@@ -2,14 +2,14 @@
 use mathlib.Core.Bool.{Bool, not, cond, _&&_, _||_}
 use mathlib.Core.List.{List, [], _∷_, _++_, map}
 use mathlib.Core.Option.{Option, none, some}
-use Prim.Native.Nat.{ℕ, _+_, _/_, _%_, _^_}
+use Prim.Native.Nat.{ℕ, _+_, _-_, _/_, _%_, _^_}
 use lib.ListN.{getD, set, take, drop, replicate}
 use lib.Dec.{ltb}
 use lib.IntN.{ℤ, pos, negsuc, _+ℤ_}
 use lib.Signed.{leZ}
 use Rattle.number.specs.Number.{mark, eqZ, Operator, result, faults}
 use Rattle.field.specs.Field.{devices, each, Field, everywhere, pointwise, faultsIn}
-use Rattle.program.specs.Tree.{Expr, nothing, constant, parameter, variable, operator, sense, rep, branch, mux, nbr, range, foldOp, foldDef, call}
+use Rattle.program.specs.Tree.{Expr, nothing, constant, parameter, variable, operator, sense, rep, branch, mux, nbr, range, lag, foldOp, foldDef, call}
 use Rattle.network.specs.Cells.{row, write}
 use Rattle.network.specs.Network.{sensorsAt, heardAt, pendingAt, ageAt, noMessage, slotsFrom}
 
@@ -76,23 +76,46 @@ sensed (pos lit) (pos s) = cond (ltb s 16) (pos (lit / 2 ^ s % 2)) (pos 0)
 sensed (pos lit) (negsuc s) = pos 0
 sensed (negsuc lit) s = pos 0
 
--- the slot last heard from b, and the distance of the link to b, in a device's cells
+-- the slot last heard from b, the distance of the link to b, and the age of what was heard from b, in a device's cells
 abbrev pub heard : List ℤ → ℕ → ℕ → ℤ
 heard block i b = getD block (heardAt b + i) (pos 0)
 
 abbrev pub distance : List ℤ → ℕ → ℤ
 distance block b = heard block 0 b
 
+abbrev pub age : List ℤ → ℕ → ℤ
+age block b = getD block (ageAt b) (pos 0)
+
+-- the ages of all
+abbrev pub ages : List ℤ → List ℤ
+ages block = row block (ageAt 1) devices
+
+-- what a round reads of a device's cells: all but its messages, with the ages where those begin
+abbrev pub own : List ℤ → List ℤ
+own block = take (pendingAt 1) block ++ ages block
+
+-- the age of what was heard from b, in what a round reads
+abbrev pub lagOf : List ℤ → ℕ → ℤ
+lagOf here b = getD here (pendingAt 1 + (b - 1)) (pos 0)
+
 abbrev pub present : ℤ → Option ℤ
 present z = cond (eqZ z mark) none (some z)
 
 -- "field of the devices heard in it"
 unfoldable pub heardIn : List ℤ → ℕ → Field
-heardIn block i = each (λ b. present (heard block i b))
+heardIn here i = each (λ b. present (heard here i b))
+
+-- "for devices heard with 0 in that slot", those whose measure is there. L2: "nbr-lag is nbr-range with another measure"
+unfoldable pub measured : (List ℤ → ℕ → ℤ) → List ℤ → ℕ → Field
+measured measure here i = each (λ b. cond (eqZ (heard here i b) (pos 0)) (present (measure here b)) none)
 
 -- "field of link distances for devices heard with 0 in that slot and having a distance cell"
-unfoldable pub rangeIn : List ℤ → ℕ → Field
-rangeIn block i = each (λ b. cond (eqZ (heard block i b) (pos 0)) (present (distance block b)) none)
+abbrev pub rangeIn : List ℤ → ℕ → Field
+rangeIn here i = measured distance here i
+
+-- L2: "a field of ages for devices heard with 0 in that slot, link or none"
+abbrev pub lagIn : List ℤ → ℕ → Field
+lagIn here i = measured lagOf here i
 
 -- the state with a variable stored, with a slot sent
 abbrev pub stored : ℕ → ℤ → State → State
@@ -114,6 +137,7 @@ reps (branch c a b) = reps c ++ (reps a ++ reps b)
 reps (mux c a b) = reps c ++ (reps a ++ reps b)
 reps (nbr i e) = reps e
 reps (range i) = []
+reps (lag i) = []
 reps (foldOp n o i f) = reps i ++ reps f
 reps (foldDef d i f) = reps d ++ (reps i ++ reps f)
 reps (call d a b c e) = reps d ++ (reps a ++ (reps b ++ (reps c ++ reps e)))
@@ -126,46 +150,47 @@ erased (v ∷ vs) s = erased vs (stored v mark s)
 abbrev pub arguments : ℤ → ℤ → ℤ → ℤ → List ℤ
 arguments x y z w = x ∷ y ∷ z ∷ w ∷ []
 
--- the expression's outcome, in a device with the cells block (up to its messages), where the parameters are args. "Evaluation walks operands left to right, except mux:
+-- the expression's outcome, in a device of which the round reads the cells here, where the parameters are args. "Evaluation walks operands left to right, except mux:
 -- then, else, condition."
 unfoldable pub eval : List ℤ → Expr → List ℤ → State → Outcome
-eval block nothing args s = done (number (pos 0)) s
-eval block (constant z) args s = done (number z) s
-eval block (parameter n p) args s = done (number (getD args p (pos 0))) s
-eval block (variable n v) args s = done (number (getD (s .variables) v (pos 0))) s
-eval block (operator n o l r) args s = thenValue (eval block l args s) (λ x s. thenValue (eval block r args s) (λ y s. operated n o x y s))
-eval block (sense e) args s = thenNumber (eval block e args s) (λ x s. done (number (sensed (getD block sensorsAt (pos 0)) x)) s)
+eval here nothing args s = done (number (pos 0)) s
+eval here (constant z) args s = done (number z) s
+eval here (parameter n p) args s = done (number (getD args p (pos 0))) s
+eval here (variable n v) args s = done (number (getD (s .variables) v (pos 0))) s
+eval here (operator n o l r) args s = thenValue (eval here l args s) (λ x s. thenValue (eval here r args s) (λ y s. operated n o x y s))
+eval here (sense e) args s = thenNumber (eval here e args s) (λ x s. done (number (sensed (getD here sensorsAt (pos 0)) x)) s)
 -- "A rep evaluates its initial part every round; with its variable absent it stores and answers that and skips the update, else it evaluates and
 -- stores the update."
-eval block (rep v i u) args s =
-    thenNumber (eval block i args s)
+eval here (rep v i u) args s =
+    thenNumber (eval here i args s)
     (λ x t. cond (eqZ (getD (t .variables) v (pos 0)) mark)
     (done (number x) (stored v x t))
-    (thenNumber (eval block u args t) (λ y t. done (number y) (stored v y t))))
+    (thenNumber (eval here u args t) (λ y t. done (number y) (stored v y t))))
 -- "An if evaluates its condition and one branch." "An if makes absent the variables of reps in the other branch"
-eval block (branch c a b) args s =
-    thenNumber (eval block c args s)
-    (λ x s. cond (isTrue x) (eval block a args (erased (reps b) s)) (eval block b args (erased (reps a) s)))
-eval block (mux c a b) args s =
-    thenNumber (eval block a args s)
-    (λ y s. thenNumber (eval block b args s) (λ z s. thenNumber (eval block c args s) (λ x s. done (number (cond (isTrue x) y z)) s)))
--- "nbr: sends its child's number in its slot"; "nbr-range: sends 0"
-eval block (nbr i e) args s = thenNumber (eval block e args s) (λ x s. done (field (heardIn block i)) (sending i x s))
-eval block (range i) args s = done (field (rangeIn block i)) (sending i (pos 0) s)
-eval block (foldOp n o i f) args s =
-    thenNumber (eval block i args s) (λ x s. thenField (eval block f args s) (λ g s. folded (λ x y s. onNumbers n o x y s) g x s))
-eval block (foldDef d i f) args s =
-    thenNumber (eval block i args s) (λ x s. thenField (eval block f args s) (λ g s. folded (λ x y s. eval block d (arguments x y (pos 0) (pos 0)) s) g x s))
-eval block (call d a b c e) args s =
-    thenNumber (eval block a args s)
-    (λ x s. thenNumber (eval block b args s)
-    (λ y s. thenNumber (eval block c args s)
-    (λ z s. thenNumber (eval block e args s)
-    (λ w s. eval block d (arguments x y z w) s))))
+eval here (branch c a b) args s =
+    thenNumber (eval here c args s)
+    (λ x s. cond (isTrue x) (eval here a args (erased (reps b) s)) (eval here b args (erased (reps a) s)))
+eval here (mux c a b) args s =
+    thenNumber (eval here a args s)
+    (λ y s. thenNumber (eval here b args s) (λ z s. thenNumber (eval here c args s) (λ x s. done (number (cond (isTrue x) y z)) s)))
+-- "nbr: sends its child's number in its slot"; "nbr-range: sends 0"; L2, of nbr-lag: "sends 0"
+eval here (nbr i e) args s = thenNumber (eval here e args s) (λ x s. done (field (heardIn here i)) (sending i x s))
+eval here (range i) args s = done (field (rangeIn here i)) (sending i (pos 0) s)
+eval here (lag i) args s = done (field (lagIn here i)) (sending i (pos 0) s)
+eval here (foldOp n o i f) args s =
+    thenNumber (eval here i args s) (λ x s. thenField (eval here f args s) (λ g s. folded (λ x y s. onNumbers n o x y s) g x s))
+eval here (foldDef d i f) args s =
+    thenNumber (eval here i args s) (λ x s. thenField (eval here f args s) (λ g s. folded (λ x y s. eval here d (arguments x y (pos 0) (pos 0)) s) g x s))
+eval here (call d a b c e) args s =
+    thenNumber (eval here a args s)
+    (λ x s. thenNumber (eval here b args s)
+    (λ y s. thenNumber (eval here c args s)
+    (λ z s. thenNumber (eval here e args s)
+    (λ w s. eval here d (arguments x y z w) s))))
 
--- a round reads the device's cells up to its messages, and starts with its variables and with nothing sent
+-- a round starts with the device's variables and with nothing sent
 unfoldable pub round : Expr → List ℤ → Outcome
-round main block = eval (take (pendingAt 1) block) main (arguments (pos 0) (pos 0) (pos 0) (pos 0)) (record { variables = take 16 block; sent = replicate 16 mark })
+round main block = eval (own block) main (arguments (pos 0) (pos 0) (pos 0) (pos 0)) (record { variables = take 16 block; sent = replicate 16 mark })
 
 -- "all that is pending from a goes, and each b with a link from a gets one message with exactly the slots sent, even none"
 unfoldable pub message : List ℤ → State → ℕ → List ℤ
@@ -186,13 +211,6 @@ fades z = not (eqZ z mark) && leZ fadesAt (z +ℤ pos 1)
 -- the age z after this round: ".. and the age become absent"; an absent one stays absent
 unfoldable pub older : ℤ → ℤ
 older z = cond (eqZ z mark || fades z) mark (z +ℤ pos 1)
-
--- the ages of what was heard, and that of what was heard from b
-abbrev pub ages : List ℤ → List ℤ
-ages block = row block (ageAt 1) devices
-
-abbrev pub age : List ℤ → ℕ → ℤ
-age block b = getD block (ageAt b) (pos 0)
 
 -- the row heard from b after a round: ".. the sender's slots 1–15 .. become absent", the distance stays
 unfoldable pub faded : List ℤ → ℕ → List ℤ

@@ -10,7 +10,7 @@ use Rattle.words.specs.Form.{parameterForm}
 use Rattle.words.specs.Word.{form, item}
 use Rattle.words.specs.Trees.{treeAt}
 use Rattle.operands.specs.Formed.{width, binds, reads, part}
-use Rattle.operands.proofs.Views.{View, is-constant, is-parameter, is-variable, is-operator, is-sense, is-rep, is-if, is-mux, is-fold-by, is-call, is-fold, is-nbr, is-range, is-field-if}
+use Rattle.operands.proofs.Views.{View, is-constant, is-parameter, is-variable, is-operator, is-sense, is-rep, is-if, is-mux, is-fold-by, is-call, is-fold, is-nbr, is-range, is-lag, is-field-if}
 use Rattle.operands.proofs.Views.{is-field-operator}
 
 -- the node itself
@@ -42,5 +42,6 @@ all-misread (is-call h e) count kept = rw (e, h)
 all-misread (is-fold h e) count kept = rw (e, h) (simp append-nil)
 all-misread (is-nbr h e) count kept = rw (e, h) (simp append-nil)
 all-misread (is-range h e) count kept = rw (e, h)
+all-misread (is-lag h e) count kept = rw (e, h)
 all-misread (is-field-if h e) count kept = rw (e, h) (simp append-nil)
 all-misread (is-field-operator h e) count kept = rw (e, h) (simp append-nil)

@@ -3,7 +3,7 @@ use mathlib.Core.Path.{_≡_}
 use Prim.Native.Nat.{ℕ, zero, suc, _≤_, _<_}
 use native.Mathlib.Omega.{arith}
 use Rattle.program.specs.Table.{kindCount}
-use Rattle.shapes.specs.Kinds.{constantKind, parameterKind, variableKind, operatorKind, senseKind, repKind, ifKind, muxKind, nbrKind, rangeKind, foldKind, foldByKind, callKind}
+use Rattle.shapes.specs.Kinds.{constantKind, parameterKind, variableKind, operatorKind, senseKind, repKind, ifKind, muxKind, nbrKind, rangeKind, foldKind, foldByKind, callKind, lagKind}
 use Rattle.shapes.specs.Shapes.{noItem, operatorItem, parameterItem, variableItem, keptItem, slotItem, constantItem, definitionItem, itemCount}
 
 pub record ByKind (P : ℕ → Type 0) : Type 0 where
@@ -20,6 +20,7 @@ pub record ByKind (P : ℕ → Type 0) : Type 0 where
   pub fold : P foldKind
   pub foldBy : P foldByKind
   pub call : P callKind
+  pub lag : P lagKind
 
 pub by-kind : {P : ℕ → Type 0} → ByKind P → (k : ℕ) → k < kindCount → P k
 by-kind r zero h = r .constant
@@ -35,7 +36,8 @@ by-kind r (suc (suc (suc (suc (suc (suc (suc (suc (suc zero))))))))) h = r .rang
 by-kind r (suc (suc (suc (suc (suc (suc (suc (suc (suc (suc zero)))))))))) h = r .fold
 by-kind r (suc (suc (suc (suc (suc (suc (suc (suc (suc (suc (suc zero))))))))))) h = r .foldBy
 by-kind r (suc (suc (suc (suc (suc (suc (suc (suc (suc (suc (suc (suc zero)))))))))))) h = r .call
-by-kind r (suc (suc (suc (suc (suc (suc (suc (suc (suc (suc (suc (suc (suc k))))))))))))) h = absurd (omega arith)
+by-kind r (suc (suc (suc (suc (suc (suc (suc (suc (suc (suc (suc (suc (suc zero))))))))))))) h = r .lag
+by-kind r (suc (suc (suc (suc (suc (suc (suc (suc (suc (suc (suc (suc (suc (suc k)))))))))))))) h = absurd (omega arith)
 
 -- a kind that is not j, where it is none below
 pub past : {j k : ℕ} → j ≤ k → (k ≡ j → ⊥) → suc j ≤ k

@@ -41,3 +41,6 @@ foldByKind = 11
 
 abbrev pub callKind : ℕ
 callKind = 12
+
+abbrev pub lagKind : ℕ
+lagKind = 13

@@ -60,6 +60,7 @@ shapes count =
     ∷ (operatorItem, 2)  -- fold by operator
     ∷ (definitionItem, 2)  -- fold by definition
     ∷ (definitionItem, count)  -- call
+    ∷ (slotItem, 0)  -- nbr-lag
     ∷ []
 
 abbrev pub leads : List ℕ

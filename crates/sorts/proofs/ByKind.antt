@@ -29,6 +29,7 @@ other-kind s =
       fold = λ a b c d e f g h. absurd (f refl);
       foldBy = λ a b c d e f g h. absurd (g refl);
       call = λ a b c d e f g h. absurd (h refl);
+      lag = λ a b c d e f g h. refl;
     }
 
 pub no-fields : (kind count : ℕ) → kind < kindCount → kidsOf kind count ≡ 0 → brokenBy kind (record { a = false; b = false; c = false; d = false }) ≡ false
@@ -48,5 +49,6 @@ no-fields kind count =
       fold = λ e. absurd (omega arith);
       foldBy = λ e. absurd (omega arith);
       call = λ e. refl;
+      lag = λ e. refl;
     }
     kind

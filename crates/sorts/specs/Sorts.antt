@@ -50,6 +50,7 @@ brokenBy kind s =
     ∷ fold  -- fold by operator
     ∷ fold  -- fold by definition
     ∷ ((two || s .c) || s .d)  -- call
+    ∷ false  -- nbr-lag
     ∷ [])
     kind
     false

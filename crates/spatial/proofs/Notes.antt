@@ -14,7 +14,7 @@ use Rattle.words.specs.Word.{form, word}
 use Rattle.words.specs.Trees.{treeAt}
 use Rattle.operands.specs.Formed.{width, operand, isSpatial, part, partNote, Formed}
 use Rattle.operands.proofs.Below.{set-more}
-use Rattle.operands.proofs.Views.{View, is-constant, is-parameter, is-variable, is-operator, is-sense, is-rep, is-if, is-mux, is-fold-by, is-call, is-fold, is-nbr, is-range, is-field-if}
+use Rattle.operands.proofs.Views.{View, is-constant, is-parameter, is-variable, is-operator, is-sense, is-rep, is-if, is-mux, is-fold-by, is-call, is-fold, is-nbr, is-range, is-lag, is-field-if}
 use Rattle.operands.proofs.Views.{is-field-operator, view}
 use Rattle.spatial.specs.Noted.{Spatials, spatialOf}
 
@@ -39,6 +39,7 @@ all-spatial (is-call h e) = rw (e, h) (simp or-assoc)
 all-spatial (is-fold h e) = rw (e, h) (simp or-false)
 all-spatial (is-nbr h e) = rw (e, h)
 all-spatial (is-range h e) = rw (e, h)
+all-spatial (is-lag h e) = rw (e, h)
 all-spatial (is-field-if h e) = rw (e, h) (simp (or-assoc, or-false))
 all-spatial (is-field-operator h e) = rw (e, h) (simp or-false)
 

@@ -33,9 +33,11 @@ pub const NBR: u8 = 16;
 
 pub const RANGE: u8 = 17;
 
-pub const FIELD_IF: u8 = 18;
+pub const LAG: u8 = 18;
 
-pub const FIELD_OPERATOR: u8 = 19;
+pub const FIELD_IF: u8 = 19;
+
+pub const FIELD_OPERATOR: u8 = 20;
 
 pub const LEAVES: u8 = 3;
 

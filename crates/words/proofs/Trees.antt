@@ -11,9 +11,9 @@ use lib.Seq.{getD-at}
 use lib.Dec.{ltb}
 use borrow.Author.Tests.{ltb-true}
 use Rattle.number.specs.Number.{operatorOf}
-use Rattle.program.specs.Tree.{Expr, nothing, constant, parameter, variable, operator, sense, rep, branch, mux, nbr, range, foldOp, foldDef, call}
+use Rattle.program.specs.Tree.{Expr, nothing, constant, parameter, variable, operator, sense, rep, branch, mux, nbr, range, lag, foldOp, foldDef, call}
 use Rattle.words.specs.Form.{constantForm, parameterForm, variableForm, operatorForm, senseForm, repForm, ifForm, muxForm, foldByForm, callForm, foldForm, leastForm, pairForm, nbrForm}
-use Rattle.words.specs.Form.{rangeForm, fieldIfForm, fieldOperatorForm}
+use Rattle.words.specs.Form.{rangeForm, lagForm, fieldIfForm, fieldOperatorForm}
 use Rattle.words.specs.Word.{form, item, p1, p2, p3, p4, body, count, constantOf, word}
 use Rattle.words.specs.Trees.{at, argAt, argOf, made, below, treeAt}
 
@@ -101,6 +101,10 @@ module _ (n : ℕ) (es : List Expr) (w : ℕ) where
   made-range : form w ≡ rangeForm → made n es w ≡ range (item w)
   unfolding made
   made-range h = rw h
+
+  made-lag : form w ≡ lagForm → made n es w ≡ lag (item w)
+  unfolding made
+  made-lag h = rw h
 
   made-iff : form w ≡ fieldIfForm → made n es w ≡ branch (at es (p1 w)) (at es (p2 w)) (at es (p3 w))
   unfolding made
@@ -206,6 +210,10 @@ module _ (ws : List ℕ) (n : ℕ) where
   pub tree-range : form (word ws n) ≡ rangeForm → treeAt ws n ≡ range (item (word ws n))
   unfolding treeAt
   tree-range h = made-range n (below ws n) (word ws n) h
+
+  pub tree-lag : form (word ws n) ≡ lagForm → treeAt ws n ≡ lag (item (word ws n))
+  unfolding treeAt
+  tree-lag h = made-lag n (below ws n) (word ws n) h
 
   pub tree-iff : form (word ws n) ≡ fieldIfForm → p1 (word ws n) < n → p2 (word ws n) < n → p3 (word ws n) < n
       → treeAt ws n ≡ branch (treeAt ws (p1 (word ws n))) (treeAt ws (p2 (word ws n))) (treeAt ws (p3 (word ws n)))

@@ -1,7 +1,7 @@
 -- The forms of a node's word: which way it is evaluated. Internal: no public contract cites it. Definitions only: nothing is assumed.
 use Prim.Native.Nat.{ℕ}
 
--- those that give a number: one for each kind but nbr and nbr-range. The evaluator keeps those together that three divides (operator, if, call, pair; a constant is a leaf)
+-- those that give a number: one for each kind but nbr, nbr-range and nbr-lag. The evaluator keeps those together that three divides (operator, if, call, pair; a constant is a leaf)
 abbrev pub constantForm : ℕ
 constantForm = 0
 
@@ -50,11 +50,14 @@ nbrForm = 16
 abbrev pub rangeForm : ℕ
 rangeForm = 17
 
+abbrev pub lagForm : ℕ
+lagForm = 18
+
 abbrev pub fieldIfForm : ℕ
-fieldIfForm = 18
+fieldIfForm = 19
 
 abbrev pub fieldOperatorForm : ℕ
-fieldOperatorForm = 19
+fieldOperatorForm = 20
 
 -- forms below leafForms name no node and give a number, those below numberForms give a number, those from fieldForms on a field; from forms on there is none
 abbrev pub leafForms : ℕ
@@ -67,4 +70,4 @@ abbrev pub fieldForms : ℕ
 fieldForms = 16
 
 abbrev pub forms : ℕ
-forms = 20
+forms = 21

@@ -5,9 +5,9 @@ use Prim.Native.Nat.{ℕ, zero, suc}
 use lib.ListN.{getD}
 use lib.Dec.{eqb, ltb}
 use Rattle.number.specs.Number.{operatorOf}
-use Rattle.program.specs.Tree.{Expr, nothing, constant, parameter, variable, operator, sense, rep, branch, mux, nbr, range, foldOp, foldDef, call}
+use Rattle.program.specs.Tree.{Expr, nothing, constant, parameter, variable, operator, sense, rep, branch, mux, nbr, range, lag, foldOp, foldDef, call}
 use Rattle.words.specs.Form.{constantForm, parameterForm, variableForm, operatorForm, senseForm, repForm, ifForm, muxForm, foldByForm, callForm, foldForm}
-use Rattle.words.specs.Form.{leastForm, pairForm, nbrForm, rangeForm, fieldIfForm}
+use Rattle.words.specs.Form.{leastForm, pairForm, nbrForm, rangeForm, lagForm, fieldIfForm}
 use Rattle.words.specs.Word.{form, item, p1, p2, p3, p4, body, count, constantOf, word}
 
 abbrev pub at : List Expr → ℕ → Expr
@@ -35,8 +35,9 @@ made n es w =
     (cond (eqb (form w) pairForm) (operator n (operatorOf (item w)) (at es (p1 w)) (at es (p2 w)))
     (cond (eqb (form w) nbrForm) (nbr (item w) (at es (p1 w)))
     (cond (eqb (form w) rangeForm) (range (item w))
+    (cond (eqb (form w) lagForm) (lag (item w))
     (cond (eqb (form w) fieldIfForm) (branch (at es (p1 w)) (at es (p2 w)) (at es (p3 w)))
-    (operator n (operatorOf (item w)) (at es (p1 w)) (at es (p2 w))))))))))))))))))
+    (operator n (operatorOf (item w)) (at es (p1 w)) (at es (p2 w)))))))))))))))))))
 
 -- the trees of the nodes below n
 unfoldable pub below : List ℕ → ℕ → List Expr

@@ -26,6 +26,8 @@ pub const NOW: Sizes = Sizes { cells: network::CELLS, answer: 2 };
 pub struct Timed {
     pub engine: &'static dyn Engine,
     pub sizes: Sizes,
+    /// Whether it is the older library, which may not know every kind of node.
+    pub older: bool,
 }
 
 /// The older library of the proved engine.
@@ -69,9 +71,9 @@ pub fn all(before: Sizes) -> Vec<Timed> {
         #[cfg(not(feature = "proved"))]
         None
     };
-    let older = older.map(|engine| Timed { engine, sizes: before });
-    let now = proved.into_iter().chain([&Second as &dyn Engine]).map(|engine| Timed { engine, sizes: NOW });
-    older.into_iter().chain(now).collect()
+    let older = older.map(|engine| Timed { engine, sizes: before, older: true });
+    let now = proved.into_iter().chain([&Second as &dyn Engine]);
+    older.into_iter().chain(now.map(|engine| Timed { engine, sizes: NOW, older: false })).collect()
 }
 
 /// A program's table.
@@ -80,6 +82,11 @@ pub fn table(draft: &Draft) -> Vec<u8> {
 }
 
 impl Timed {
+    /// Whether the engine can be given this program: an older one refuses kinds that came later (3).
+    pub fn knows(&self, program: &[u8]) -> bool {
+        !self.older || self.engine.check(program).0 != 3
+    }
+
     /// Whether the engine takes networks of its size, and fills exactly its size of an answer.
     pub fn has_its_sizes(&self) -> bool {
         let one = table(&Draft { definitions: vec![], main: Tree::constant(1), orphans: vec![] });

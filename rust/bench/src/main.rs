@@ -76,18 +76,20 @@ fn words(nanos: f64) -> String {
 
 impl Column {
     /// The column's entry in the row of a work: from the times of all engines in each round, for calls that each did
-    /// so many events, or 1.
+    /// so many events, or 1. `-` where an engine did not do the work.
     fn entry(&self, times: &[Vec<f64>], events: usize) -> String {
         let each = |time: f64| words(time / events as f64);
+        let done = |of: usize| !times[of].is_empty();
         match *self {
-            Column::Time(of) => {
+            Column::Time(of) if done(of) => {
                 let least = times[of].iter().copied().fold(f64::MAX, f64::min);
                 format!("{} (least {})", each(median(times[of].clone())), each(least))
             }
-            Column::Ratio(of, to) => {
+            Column::Ratio(of, to) if done(of) && done(to) => {
                 let ratios = times[of].iter().zip(&times[to]).map(|(of, to)| of / to);
                 format!("{:.2}", median(ratios.collect()))
             }
+            _ => "-".into(),
         }
     }
 }
@@ -139,7 +141,7 @@ fn main() -> ExitCode {
         return ExitCode::from(2);
     };
     let engines = &engines::all(before);
-    if let Some(Timed { engine, sizes }) = engines.iter().find(|timed| !timed.has_its_sizes()) {
+    if let Some(Timed { engine, sizes, .. }) = engines.iter().find(|timed| !timed.has_its_sizes()) {
         eprintln!("{}: it does not have {sizes}.", engine.name());
         eprintln!("Sizes of the older library are given by --before-cells N and --before-answer W.");
         return ExitCode::from(2);
@@ -150,6 +152,9 @@ fn main() -> ExitCode {
     println!("a ratio is the median of the rounds' ratios.");
     if before != NOW {
         println!("Before: {before}. What that engine left is not compared.");
+    }
+    if engines.iter().any(|timed| timed.older) {
+        println!("`-` stands at a program with a kind of node that the older library does not know.");
     }
     print_table("work", &works::all(), false, engines, rounds);
     let growth = "distance-to, a run of so many events: time an event";

@@ -109,12 +109,15 @@ impl Work {
         (nanos as f64 / calls as f64, Left { returned, network, space })
     }
 
-    /// What each engine took in each round, in nanoseconds. Engines of the same sizes must do the same.
+    /// What each engine took in each round, in nanoseconds; nothing for an older one that does not know the program.
+    /// Engines of the same sizes must do the same.
     pub fn measure(&self, engines: &[Timed], rounds: usize) -> Vec<Vec<f64>> {
         let mut times = vec![vec![]; engines.len()];
+        // Asked once, as a check in a round would warm the older engine only.
+        let known: Vec<bool> = engines.iter().map(|timed| timed.knows(&self.program)).collect();
         for round in 0..rounds {
             let mut lefts: Vec<(Sizes, Left)> = vec![];
-            for which in order(round, engines.len()) {
+            for which in order(round, engines.len()).filter(|which| known[*which]) {
                 let timed = &engines[which];
                 let (time, left) = self.time(timed);
                 times[which].push(time);

@@ -148,7 +148,19 @@ fn check(name: &str, draft: &Draft, number: u32) -> Work {
 }
 
 fn distance_to() -> Vec<u8> {
-    table(&grow::distance_to([1, 2], 0))
+    table(&grow::distance_to(9, [1, 2], 0))
+}
+
+/// distance-to with nbr-lag in place of nbr-range: how stale the news of the lit device is.
+fn lag_to() -> Vec<u8> {
+    table(&grow::distance_to(13, [1, 2], 0))
+}
+
+/// A fold of nbr-lag and nbr-range, both of which send 0.
+fn lags_and_ranges() -> Vec<u8> {
+    let field = Tree::sum(Tree::new(13, &[1], vec![]), Tree::new(9, &[2], vec![]));
+    let main = Tree::new(10, &[0], vec![Tree::constant(0), field]);
+    table(&Draft { definitions: vec![], main, orphans: vec![] })
 }
 
 /// Runs on a whole fleet.
@@ -161,6 +173,7 @@ fn fleets() -> Vec<Work> {
         run("the same with 199 nodes of arithmetic, halves below halves", &table(&level), grid(20_000), 1),
         run("the same with 200 nodes of arithmetic in a chain, 100 deep", &arithmetic(), grid(20_000), 1),
         run("the same with a fold of eight nbrs, sums and constants between them", &fields(), grid(20_000), 1),
+        run("run of 20,000 events: distance-to by nbr-lag, the grid", &lag_to(), grid(20_000), 1),
         run(
             "run of 20,000 events: distance-to, a ring, each hears two or three",
             &distance_to(),
@@ -170,6 +183,12 @@ fn fleets() -> Vec<Work> {
         run(
             "run of 20,000 events: distance-to, the grid, one message in five is heard, and fades",
             &distance_to(),
+            seldom.clone(),
+            1,
+        ),
+        run(
+            "run of 20,000 events: a fold of nbr-lag and nbr-range, the grid, one message in five is heard",
+            &lags_and_ranges(),
             seldom,
             1,
         ),
@@ -228,7 +247,8 @@ fn silent() -> Work {
 
 /// What is done without events.
 fn checks() -> Vec<Work> {
-    let shape = Shape { nodes: 256, definitions: 8, cost: 4_000, spare: 0, deep: 20 };
+    // Of kinds that older libraries know too.
+    let shape = Shape { nodes: 256, definitions: 8, cost: 4_000, spare: 0, deep: 20, measures: &[9] };
     let mut full = grow::accepted(shape, &mut Random::new(8, 8));
     grow::pad(&mut full, 256);
     assert_eq!(full.size(), 256);

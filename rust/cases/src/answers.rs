@@ -1,6 +1,6 @@
 //! What an answer stands for: 01's rows 14 to 17 by event and by what is wrong.
 
-use crate::table::split;
+use crate::table::{split, takes_slot};
 
 /// Every label of an answer.
 pub const LABELS: [&str; 33] = [
@@ -108,7 +108,7 @@ fn division(program: &[u8], node: i32) -> &'static str {
     for body in &nodes {
         let is_field = |child: &u8| fields[usize::from(*child)];
         let field = match body {
-            [8 | 9, ..] => true,
+            [kind, ..] if takes_slot(*kind) => true,
             [3, _, left, right] => is_field(left) || is_field(right),
             [6, _, then, _] => is_field(then),
             _ => false,
@@ -161,6 +161,7 @@ mod tests {
     fn divisions() {
         let one = || Tree::constant(1);
         let range = |slot: u8| Tree::new(9, &[slot], vec![]);
+        let lag = |slot: u8| Tree::new(13, &[slot], vec![]);
         let by = |left: Tree, right: Tree| Tree::new(3, &[3], vec![left, right]);
         let fold = |operator: u8, field: Tree| Tree::new(10, &[operator], vec![one(), field]);
         for (main, node, expected) in [
@@ -169,7 +170,8 @@ mod tests {
             (by(one(), one()), 3, UNFOUNDED),
             (fold(0, by(range(1), one())), 3, "17 field by number"),
             (fold(0, by(one(), range(1))), 3, "17 number by field"),
-            (fold(0, by(range(1), Tree::new(6, &[], vec![one(), range(2), range(3)]))), 6, "17 field by field"),
+            (fold(0, by(lag(1), one())), 3, "17 field by number"),
+            (fold(0, by(range(1), Tree::new(6, &[], vec![one(), lag(2), range(3)]))), 6, "17 field by field"),
             (fold(3, range(1)), 2, "17 fold"),
             (fold(2, range(1)), 2, UNFOUNDED),
         ] {

@@ -2,7 +2,7 @@
 
 use crate::grow::{self, Shape};
 use crate::random::Random;
-use crate::table::{bytes, write, Draft, Field, Tree, Written};
+use crate::table::{bytes, takes_slot, write, Draft, Field, Tree, Written, LAYOUT};
 
 /// What a call is expected to return: the number, and the place where it is known.
 pub type Expected = Option<(u32, Option<usize>)>;
@@ -13,10 +13,6 @@ pub struct Broken {
     pub expected: Expected,
 }
 
-/// Items before the operands, and operands; a call's depend on its definition.
-const LAYOUT: [(usize, usize); 12] =
-    [(4, 0), (1, 0), (1, 0), (1, 2), (0, 1), (1, 2), (0, 3), (0, 3), (1, 1), (1, 0), (1, 2), (1, 2)];
-
 /// What the fields before some place have given and taken.
 #[derive(Default)]
 struct Before {
@@ -24,7 +20,8 @@ struct Before {
     /// Parameter counts.
     definitions: Vec<u8>,
     named: Vec<u8>,
-    slots: Vec<u8>,
+    /// Slots by the kind that took them.
+    slots: Vec<(u8, u8)>,
     variables: Vec<u8>,
 }
 
@@ -39,11 +36,11 @@ impl Before {
             }
             before.nodes += 1;
             let kind = field.body[0];
-            let items = if kind == 12 { 1 } else { LAYOUT[usize::from(kind)].0 };
+            let (items, _) = LAYOUT[usize::from(kind)];
             before.named.extend(&field.body[1 + items..]);
             match kind {
                 5 => before.variables.push(field.body[1]),
-                8 | 9 => before.slots.push(field.body[1]),
+                kind if takes_slot(kind) => before.slots.push((kind, field.body[1])),
                 _ => {}
             }
         }
@@ -69,6 +66,7 @@ const FIELD_FAULTS: [(&str, u32); 46] = [
     ("1 mux of wrong length", 1),
     ("1 nbr of wrong length", 1),
     ("1 nbr-range of wrong length", 1),
+    ("1 nbr-lag of wrong length", 1),
     ("1 fold by operator of wrong length", 1),
     ("1 fold by definition of wrong length", 1),
     ("1 call under 2 bytes", 1),
@@ -83,6 +81,7 @@ const FIELD_FAULTS: [(&str, u32); 46] = [
     ("3 variable of rep above 15", 3),
     ("3 slot of nbr outside 1-15", 3),
     ("3 slot of nbr-range outside 1-15", 3),
+    ("3 slot of nbr-lag outside 1-15", 3),
     ("3 operator of fold above 8", 3),
     ("3 parameter count above 4", 3),
     ("4 operand not given", 4),
@@ -97,13 +96,29 @@ const FIELD_FAULTS: [(&str, u32); 46] = [
     ("5 operand named twice in one field", 5),
     ("5 argument taken", 5),
     ("5 argument named twice in one field", 5),
-    ("5 slot of nbr taken", 5),
-    ("5 slot of nbr-range taken", 5),
     ("5 variable of rep taken", 5),
     ("5 body taken", 5),
     ("5 main taken", 5),
     ("1 field cut short", 1),
 ];
+
+/// More of them, slots taken twice (5): the label, the kind that takes it now, the kind that has it.
+const SLOTS: [(&str, u8, u8); 9] = [
+    ("5 slot of nbr taken by nbr", 8, 8),
+    ("5 slot of nbr taken by nbr-range", 8, 9),
+    ("5 slot of nbr taken by nbr-lag", 8, 13),
+    ("5 slot of nbr-range taken by nbr", 9, 8),
+    ("5 slot of nbr-range taken by nbr-range", 9, 9),
+    ("5 slot of nbr-range taken by nbr-lag", 9, 13),
+    ("5 slot of nbr-lag taken by nbr", 13, 8),
+    ("5 slot of nbr-lag taken by nbr-range", 13, 9),
+    ("5 slot of nbr-lag taken by nbr-lag", 13, 13),
+];
+
+/// All faults in one field: the label, the refusal.
+fn field_faults() -> impl Iterator<Item = (&'static str, u32)> {
+    FIELD_FAULTS.into_iter().chain(SLOTS.map(|(label, _, _)| (label, 5)))
+}
 
 fn field_fault(label: &str, before: &Before, random: &mut Random) -> Option<Vec<u8>> {
     let whole = |tag: u8, body: Vec<u8>| Some(Field { tag, body }.bytes());
@@ -114,15 +129,15 @@ fn field_fault(label: &str, before: &Before, random: &mut Random) -> Option<Vec<
     let given = |random: &mut Random| (before.nodes > 0).then(|| random.below(before.nodes) as u8);
     let not_given = |random: &mut Random| (before.nodes < 256).then(|| random.near(before.nodes, 255) as u8);
     let unnamed = before.unnamed();
-    let free = |taken: &[u8], low: u8| (low..=15).find(|one| !taken.contains(one));
+    let free = |taken: &dyn Fn(u8) -> bool, low: u8| (low..=15).find(|one| !taken(*one));
     const PARENTS: [u8; 8] = [3, 4, 5, 6, 7, 8, 10, 11];
     // A node with operands; items are good and free where they can be.
     let parent = |kind: u8, operands: &[u8]| -> Option<Vec<u8>> {
         let mut body = vec![kind];
         match kind {
             3 | 10 => body.push(0),
-            5 => body.push(free(&before.variables, 0)?),
-            8 => body.push(free(&before.slots, 1)?),
+            5 => body.push(free(&|v| before.variables.contains(&v), 0)?),
+            8 => body.push(free(&|slot| before.slots.iter().any(|(_, taken)| *taken == slot), 1)?),
             11 if before.definitions.is_empty() => return None,
             11 => body.push(0),
             _ => {}
@@ -159,6 +174,7 @@ fn field_fault(label: &str, before: &Before, random: &mut Random) -> Option<Vec<
         "1 mux of wrong length" => whole(1, wrong_length(7, random)?),
         "1 nbr of wrong length" => whole(1, wrong_length(8, random)?),
         "1 nbr-range of wrong length" => whole(1, wrong_length(9, random)?),
+        "1 nbr-lag of wrong length" => whole(1, wrong_length(13, random)?),
         "1 fold by operator of wrong length" => whole(1, wrong_length(10, random)?),
         "1 fold by definition of wrong length" => whole(1, wrong_length(11, random)?),
         "1 call under 2 bytes" => whole(1, vec![12]),
@@ -181,7 +197,7 @@ fn field_fault(label: &str, before: &Before, random: &mut Random) -> Option<Vec<
         }
         "3 unknown kind" => {
             let length = random.below(7);
-            let mut body = vec![above(random, 12)];
+            let mut body = vec![above(random, 13)];
             body.extend(junk(random, length));
             whole(1, body)
         }
@@ -192,6 +208,7 @@ fn field_fault(label: &str, before: &Before, random: &mut Random) -> Option<Vec<
         "3 variable of rep above 15" => whole(1, vec![5, above(random, 15), random.byte(), random.byte()]),
         "3 slot of nbr outside 1-15" => whole(1, vec![8, slot_out(random), random.byte()]),
         "3 slot of nbr-range outside 1-15" => whole(1, vec![9, slot_out(random)]),
+        "3 slot of nbr-lag outside 1-15" => whole(1, vec![13, slot_out(random)]),
         "3 operator of fold above 8" => whole(1, vec![10, above(random, 8), random.byte(), random.byte()]),
         "3 parameter count above 4" => whole(2, vec![above(random, 4), random.byte()]),
         "4 operand not given" => {
@@ -275,14 +292,6 @@ fn field_fault(label: &str, before: &Before, random: &mut Random) -> Option<Vec<
             random.shuffle(&mut body[2..]);
             whole(1, body)
         }
-        "5 slot of nbr taken" => {
-            (!before.slots.is_empty() && !unnamed.is_empty()).then_some(())?;
-            whole(1, vec![8, random.pick(&before.slots), random.pick(&unnamed)])
-        }
-        "5 slot of nbr-range taken" => {
-            (!before.slots.is_empty()).then_some(())?;
-            whole(1, vec![9, random.pick(&before.slots)])
-        }
         "5 variable of rep taken" => {
             (!before.variables.is_empty() && unnamed.len() > 1).then_some(())?;
             whole(1, vec![5, random.pick(&before.variables), unnamed[0], unnamed[1]])
@@ -302,13 +311,22 @@ fn field_fault(label: &str, before: &Before, random: &mut Random) -> Option<Vec<
             let cut = random.between(1, field.len() - 1);
             Some(field[..cut].to_vec())
         }
-        _ => unreachable!("{label} is no fault of a field"),
+        _ => {
+            let (_, kind, by) = SLOTS.into_iter().find(|(of, _, _)| *of == label).expect(label);
+            let slots: Vec<u8> =
+                before.slots.iter().filter(|(taken_by, _)| *taken_by == by).map(|(_, slot)| *slot).collect();
+            let mut body = vec![kind, (!slots.is_empty()).then(|| random.pick(&slots))?];
+            if kind == 8 {
+                body.push((!unnamed.is_empty()).then(|| random.pick(&unnamed))?);
+            }
+            whole(1, body)
+        }
     }
 }
 
 /// A fault in one field, after a good beginning.
 fn in_a_field(random: &mut Random) -> Broken {
-    let (label, number) = FIELD_FAULTS[random.below(FIELD_FAULTS.len())];
+    let (label, number) = random.pick(&field_faults().collect::<Vec<_>>());
     loop {
         let shape = Shape { nodes: random.between(4, 60), definitions: random.between(0, 6), ..Shape::any(random) };
         let fields = any_order(&grow::accepted(shape, random), random).fields;
@@ -331,6 +349,18 @@ fn any_order(draft: &Draft, random: &mut Random) -> Written {
     write(draft, plain, random)
 }
 
+/// The 257th node, whatever else is wrong with it: the label, the refusal, the body.
+fn node_257(random: &mut Random) -> (&'static str, u32, Vec<u8>) {
+    if random.chance(40) {
+        let slot = random.between(1, 15) as u8;
+        return ("2 257th node: nbr-lag", 2, random.pick(&[&[13, slot][..], &[13, 0], &[13]]).to_vec());
+    }
+    match random.below(6) {
+        0 => ("1 257th node without kind", 1, vec![]),
+        length => ("2 257th node", 2, (0..length).map(|_| random.byte() % 16).collect()),
+    }
+}
+
 /// Tables that are too full.
 fn too_many(random: &mut Random) -> Broken {
     let shape = Shape { nodes: 256, definitions: random.between(0, 31), ..Shape::any(random) };
@@ -339,9 +369,7 @@ fn too_many(random: &mut Random) -> Broken {
         grow::pad(&mut draft, 256);
         let mut fields = any_order(&draft, random).fields;
         fields.pop();
-        let length = random.below(6);
-        let body: Vec<u8> = (0..length).map(|_| random.byte() % 16).collect();
-        let (label, number) = if body.is_empty() { ("1 257th node without kind", 1) } else { ("2 257th node", 2) };
+        let (label, number, body) = node_257(random);
         let place = fields.len();
         fields.push(Field { tag: 1, body });
         return Broken { label, program: bytes(&fields), expected: Some((number, Some(place))) };
@@ -394,32 +422,62 @@ fn table_end(random: &mut Random) -> Broken {
         }
         _ => {
             let one = Tree::constant(random.number());
-            draft.orphans.push(if random.chance(50) { one } else { Tree::new(4, &[], vec![one]) });
+            let orphan = match random.below(3) {
+                0 => Unused::of(&draft).of_kind(random.pick(&[8, 9, 13])).unwrap_or(one),
+                1 => Tree::new(4, &[], vec![one]),
+                _ => one,
+            };
+            draft.orphans.push(orphan);
             broken("6 node unnamed", bytes(&any_order(&draft, random).fields))
         }
     }
 }
 
-/// Faults of the trees: the label, the refusal.
-const TREE_FAULTS: [(&str, u32); 30] = [
-    ("7 sense of a field", 7),
-    ("7 rep with a field as initial part", 7),
-    ("7 rep with a field as update", 7),
-    ("7 if with a field as condition", 7),
-    ("7 if with a field and a number", 7),
-    ("7 if with a number and a field", 7),
-    ("7 mux with a field as condition", 7),
-    ("7 mux with a field as then", 7),
-    ("7 mux with a field as else", 7),
-    ("7 mux with two fields", 7),
-    ("7 nbr of a field", 7),
-    ("7 fold by operator from a field", 7),
-    ("7 fold by operator over a number", 7),
-    ("7 fold by definition from a field", 7),
-    ("7 fold by definition over a number", 7),
-    ("7 call with a field", 7),
-    ("7 main is a field", 7),
-    ("7 a body is a field", 7),
+/// Where a field stands in place of a number, or a number in place of a field.
+#[derive(Clone, Copy)]
+enum Misplaced {
+    /// Under a node of this kind, whose operands are numbers (n) and fields (f).
+    Operand(u8, &'static str),
+    Argument,
+    Main,
+    Body,
+}
+
+/// Rows of a table, each label with that of a twin in which the field, or the first of two, is an nbr-lag.
+macro_rules! twins {
+    ($($label:literal => $place:expr,)*) => {
+        [$(($label, concat!($label, ": nbr-lag"), $place),)*]
+    };
+}
+
+/// Faults of sort by a field (7): the label, its twin's, where the field stands.
+const FIELDS: [(&str, &str, Misplaced); 16] = twins![
+    "7 sense of a field" => Misplaced::Operand(4, "f"),
+    "7 rep with a field as initial part" => Misplaced::Operand(5, "fn"),
+    "7 rep with a field as update" => Misplaced::Operand(5, "nf"),
+    "7 if with a field as condition" => Misplaced::Operand(6, "fnn"),
+    "7 if with a field and a number" => Misplaced::Operand(6, "nfn"),
+    "7 if with a number and a field" => Misplaced::Operand(6, "nnf"),
+    "7 mux with a field as condition" => Misplaced::Operand(7, "fnn"),
+    "7 mux with a field as then" => Misplaced::Operand(7, "nfn"),
+    "7 mux with a field as else" => Misplaced::Operand(7, "nnf"),
+    "7 mux with two fields" => Misplaced::Operand(7, "nff"),
+    "7 nbr of a field" => Misplaced::Operand(8, "f"),
+    "7 fold by operator from a field" => Misplaced::Operand(10, "ff"),
+    "7 fold by definition from a field" => Misplaced::Operand(11, "ff"),
+    "7 call with a field" => Misplaced::Argument,
+    "7 main is a field" => Misplaced::Main,
+    "7 a body is a field" => Misplaced::Body,
+];
+
+/// Faults of sort by a number (7).
+const NUMBERS: [(&str, Misplaced); 2] = [
+    ("7 fold by operator over a number", Misplaced::Operand(10, "nn")),
+    ("7 fold by definition over a number", Misplaced::Operand(11, "nn")),
+];
+
+/// Other faults of the trees: the label, the refusal.
+const TREE_FAULTS: [(&str, u32); 16] = [
     ("8 parameter in main", 8),
     ("8 parameter at its tree's count", 8),
     ("8 variable without a rep", 8),
@@ -428,16 +486,27 @@ const TREE_FAULTS: [(&str, u32); 30] = [
     ("8 variable in a definition called under the update", 8),
     ("9 spatial definition called twice", 9),
     ("9 spatial definition called three times", 9),
-    ("9 fold by a definition with nbr or nbr-range", 9),
+    ("9 spatial definition called twice: nbr-lag", 9),
+    ("9 fold by a definition with nbr", 9),
+    ("9 fold by a definition with nbr-range", 9),
+    ("9 fold by a definition with nbr-lag", 9),
     ("9 fold by a definition with rep", 9),
     ("9 fold by a definition that calls a spatial one", 9),
+    ("9 fold by a definition that calls one with nbr-lag", 9),
     ("9 fold by a definition without two parameters", 9),
 ];
 
+/// All faults of the trees: the label, the refusal.
+fn tree_faults() -> impl Iterator<Item = (&'static str, u32)> {
+    let of_fields = FIELDS.into_iter().flat_map(|(label, twin, _)| [(label, 7), (twin, 7)]);
+    of_fields.chain(NUMBERS.map(|(label, _)| (label, 7))).chain(TREE_FAULTS)
+}
+
 /// What else the programs here are labelled with.
-const OTHER_LABELS: [&str; 25] = [
+const OTHER_LABELS: [&str; 26] = [
     "1 257th node without kind",
     "2 257th node",
+    "2 257th node: nbr-lag",
     "2 33rd definition",
     "6 empty program",
     "6 no main",
@@ -465,7 +534,7 @@ const OTHER_LABELS: [&str; 25] = [
 
 /// Every label of `labelled` and `spoiled`.
 pub fn labels() -> impl Iterator<Item = &'static str> {
-    let faults = FIELD_FAULTS.into_iter().chain(TREE_FAULTS).map(|(label, _)| label);
+    let faults = field_faults().chain(tree_faults()).map(|(label, _)| label);
     faults.chain(OTHER_LABELS)
 }
 
@@ -473,7 +542,7 @@ pub fn labels() -> impl Iterator<Item = &'static str> {
 fn graft(tree: &mut Tree, new: Tree, random: &mut Random) {
     // The operands of a number that are numbers themselves.
     let numbers = match tree.kind {
-        8 | 9 => 0,
+        kind if takes_slot(kind) => 0,
         10 | 11 => 1,
         _ => tree.children.len(),
     };
@@ -484,15 +553,18 @@ fn graft(tree: &mut Tree, new: Tree, random: &mut Random) {
     *tree = if random.chance(50) { Tree::sum(old, new) } else { Tree::sum(new, old) };
 }
 
-/// A field that takes this slot; its form goes by the slot.
-fn some_field(slot: u8) -> Tree {
-    let range = Tree::new(9, &[slot], vec![]);
-    let nbr = Tree::new(8, &[slot], vec![Tree::constant(2)]);
-    match slot % 4 {
-        0 => range,
-        1 => nbr,
-        2 => Tree::sum(range, Tree::constant(3)),
-        _ => Tree::sum(Tree::constant(4), nbr),
+/// A node of a kind that takes a slot.
+fn taker(kind: u8, slot: u8) -> Tree {
+    Tree::new(kind, &[slot], if kind == 8 { vec![Tree::constant(2)] } else { vec![] })
+}
+
+/// A field that takes this slot, of any kind, alone or with a number.
+fn some_field(slot: u8, random: &mut Random) -> Tree {
+    let field = taker(random.pick(&[8, 9, 13]), slot);
+    match random.below(3) {
+        0 => field,
+        1 => Tree::sum(field, Tree::constant(3)),
+        _ => Tree::sum(Tree::constant(4), field),
     }
 }
 
@@ -513,19 +585,33 @@ impl Unused {
         Unused { slots: free(&used.0, 1), variables: free(&used.1, 0) }
     }
 
-    fn field(&mut self) -> Option<Tree> {
-        self.slots.pop().map(some_field)
+    fn field(&mut self, random: &mut Random) -> Option<Tree> {
+        self.slots.pop().map(|slot| some_field(slot, random))
     }
 
-    /// A number that takes a slot.
-    fn sum_over_field(&mut self) -> Option<Tree> {
-        Some(Tree::new(10, &[0], vec![Tree::constant(1), self.field()?]))
+    /// A field that is a node of this kind.
+    fn of_kind(&mut self, kind: u8) -> Option<Tree> {
+        self.slots.pop().map(|slot| taker(kind, slot))
+    }
+
+    /// A number that takes a variable or a slot.
+    fn spatial(&mut self, random: &mut Random) -> Option<Tree> {
+        if random.chance(50) {
+            self.rep()
+        } else {
+            self.field(random).map(sum)
+        }
     }
 
     /// A number that takes a variable.
     fn rep(&mut self) -> Option<Tree> {
         Some(Tree::new(5, &[self.variables.pop()?], vec![Tree::constant(1), Tree::constant(1)]))
     }
+}
+
+/// A number: a field summed up.
+fn sum(field: Tree) -> Tree {
+    Tree::new(10, &[0], vec![Tree::constant(1), field])
 }
 
 /// Adds a definition; its number, or none where there is no room.
@@ -544,63 +630,66 @@ fn tree_fault(label: &str, number: u32, draft: &mut Draft, random: &mut Random) 
     }
 }
 
-/// Faults of sort that a node shows by its operands: label, kind, and which operands are fields (f) or numbers (n).
-const OPERANDS: [(&str, u8, &str); 15] = [
-    ("7 sense of a field", 4, "f"),
-    ("7 rep with a field as initial part", 5, "fn"),
-    ("7 rep with a field as update", 5, "nf"),
-    ("7 if with a field as condition", 6, "fnn"),
-    ("7 if with a field and a number", 6, "nfn"),
-    ("7 if with a number and a field", 6, "nnf"),
-    ("7 mux with a field as condition", 7, "fnn"),
-    ("7 mux with a field as then", 7, "nfn"),
-    ("7 mux with a field as else", 7, "nnf"),
-    ("7 mux with two fields", 7, "nff"),
-    ("7 nbr of a field", 8, "f"),
-    ("7 fold by operator from a field", 10, "ff"),
-    ("7 fold by operator over a number", 10, "nn"),
-    ("7 fold by definition from a field", 11, "ff"),
-    ("7 fold by definition over a number", 11, "nn"),
-];
-
 fn broken_sort(label: &str, draft: &mut Draft, random: &mut Random) -> Option<()> {
-    let mut unused = Unused::of(draft);
     let one = || Tree::constant(1);
-    let bad = match label {
-        "7 call with a field" => {
+    let (lag, place) = match NUMBERS.into_iter().find(|(of, _)| *of == label) {
+        Some((_, place)) => (false, place),
+        None => {
+            let row = FIELDS.into_iter().find(|(of, twin, _)| [*of, *twin].contains(&label));
+            row.map(|(_, twin, place)| (twin == label, place)).expect(label)
+        }
+    };
+    let mut unused = Unused::of(draft);
+    let field = if lag { unused.of_kind(13)? } else { unused.field(random)? };
+    let bad = match place {
+        Misplaced::Operand(kind, sorts) => over(kind, sorts, field, &mut unused, draft, random)?,
+        Misplaced::Argument => {
             let count = random.between(1, 4);
             let mut arguments = vec![one(); count];
-            arguments[random.below(count)] = unused.field()?;
+            arguments[random.below(count)] = field;
             Tree::new(12, &[define(draft, count, one())?], arguments)
         }
-        "7 main is a field" => {
+        Misplaced::Main => {
             let old = std::mem::replace(&mut draft.main, one());
-            draft.main = Tree::sum(old, unused.field()?).offending(7);
+            draft.main = if lag { field } else { Tree::sum(old, field) }.offending(7);
             return Some(());
         }
-        "7 a body is a field" => {
-            let (then, otherwise) = (unused.field()?, unused.field()?);
-            let body = if random.chance(50) { then } else { Tree::new(6, &[], vec![one(), then, otherwise]) };
+        Misplaced::Body => {
+            let alone = lag || random.chance(50);
+            let body = if alone { field } else { Tree::new(6, &[], vec![one(), field, unused.field(random)?]) };
             return define(draft, random.below(5), body.offending(7)).map(|_| ());
-        }
-        _ => {
-            let (_, kind, sorts) = OPERANDS.into_iter().find(|(of, _, _)| *of == label).expect(label);
-            let items = match kind {
-                5 => vec![unused.variables.pop()?],
-                8 => vec![unused.slots.pop()?],
-                10 => vec![0],
-                11 => vec![define(draft, 2, one())?],
-                _ => vec![],
-            };
-            let operands: Option<Vec<Tree>> =
-                sorts.chars().map(|sort| if sort == 'f' { unused.field() } else { Some(one()) }).collect();
-            Tree::new(kind, &items, operands?)
         }
     };
     let bad = bad.offending(7);
-    let number = if bad.kind == 8 { Tree::new(10, &[0], vec![one(), bad]) } else { bad };
+    let number = if bad.kind == 8 { sum(bad) } else { bad };
     graft(&mut draft.main, number, random);
     Some(())
+}
+
+/// A node of this kind over numbers (n) and fields (f); the first of these is given.
+fn over(
+    kind: u8,
+    sorts: &str,
+    field: Tree,
+    unused: &mut Unused,
+    draft: &mut Draft,
+    random: &mut Random,
+) -> Option<Tree> {
+    let one = || Tree::constant(1);
+    let items = match kind {
+        5 => vec![unused.variables.pop()?],
+        8 => vec![unused.slots.pop()?],
+        10 => vec![0],
+        11 => vec![define(draft, 2, one())?],
+        _ => vec![],
+    };
+    let mut first = Some(field);
+    let operand = |sort: char| match sort {
+        'f' => first.take().or_else(|| unused.field(random)),
+        _ => Some(one()),
+    };
+    let operands: Option<Vec<Tree>> = sorts.chars().map(operand).collect();
+    Some(Tree::new(kind, &items, operands?))
 }
 
 fn misreading(label: &str, draft: &mut Draft, random: &mut Random) -> Option<()> {
@@ -640,27 +729,33 @@ fn misuse(label: &str, draft: &mut Draft, random: &mut Random) -> Option<()> {
     let mut unused = Unused::of(draft);
     let one = || Tree::constant(1);
     let folds_by = match label {
-        "9 spatial definition called twice" => return too_many_calls(2, draft, random),
-        "9 spatial definition called three times" => return too_many_calls(3, draft, random),
-        "9 fold by a definition with nbr or nbr-range" => define(draft, 2, unused.sum_over_field()?)?,
-        "9 fold by a definition with rep" => define(draft, 2, unused.rep()?)?,
-        "9 fold by a definition that calls a spatial one" => {
-            let body = if random.chance(50) { unused.rep()? } else { unused.sum_over_field()? };
-            let spatial = define(draft, 0, body)?;
-            define(draft, 2, Tree::new(12, &[spatial], vec![]))?
+        "9 spatial definition called twice" => return too_many_calls(2, unused.spatial(random)?, draft, random),
+        "9 spatial definition called three times" => return too_many_calls(3, unused.spatial(random)?, draft, random),
+        "9 spatial definition called twice: nbr-lag" => {
+            return too_many_calls(2, sum(unused.of_kind(13)?), draft, random)
         }
+        "9 fold by a definition with nbr" => define(draft, 2, sum(unused.of_kind(8)?))?,
+        "9 fold by a definition with nbr-range" => define(draft, 2, sum(unused.of_kind(9)?))?,
+        "9 fold by a definition with nbr-lag" => define(draft, 2, sum(unused.of_kind(13)?))?,
+        "9 fold by a definition with rep" => define(draft, 2, unused.rep()?)?,
+        "9 fold by a definition that calls a spatial one" => calling(unused.spatial(random)?, draft)?,
+        "9 fold by a definition that calls one with nbr-lag" => calling(sum(unused.of_kind(13)?), draft)?,
         "9 fold by a definition without two parameters" => define(draft, random.pick(&[0, 1, 3, 4]), one())?,
         _ => unreachable!("{label} is no misuse"),
     };
-    let fold = Tree::new(11, &[folds_by], vec![one(), unused.field()?]);
+    let fold = Tree::new(11, &[folds_by], vec![one(), unused.field(random)?]);
     graft(&mut draft.main, fold.offending(9), random);
     Some(())
 }
 
+/// A definition of two parameters that calls one with this body.
+fn calling(body: Tree, draft: &mut Draft) -> Option<u8> {
+    let called = define(draft, 0, body)?;
+    define(draft, 2, Tree::new(12, &[called], vec![]))
+}
+
 /// A spatial definition called so often; every call is marked, though the lowest is right.
-fn too_many_calls(times: usize, draft: &mut Draft, random: &mut Random) -> Option<()> {
-    let mut unused = Unused::of(draft);
-    let body = if random.chance(50) { unused.sum_over_field()? } else { unused.rep()? };
+fn too_many_calls(times: usize, body: Tree, draft: &mut Draft, random: &mut Random) -> Option<()> {
     let mut called = define(draft, 0, body)?;
     if random.chance(50) {
         // Spatial through a call.
@@ -681,7 +776,7 @@ fn too_many_calls(times: usize, draft: &mut Draft, random: &mut Random) -> Optio
 /// The slots and variables that a tree takes.
 fn collect(tree: &Tree, used: &mut (Vec<u8>, Vec<u8>)) {
     match tree.kind {
-        8 | 9 => used.0.push(tree.items[0]),
+        kind if takes_slot(kind) => used.0.push(tree.items[0]),
         2 | 5 => used.1.push(tree.items[0]),
         _ => {}
     }
@@ -692,11 +787,11 @@ fn collect(tree: &Tree, used: &mut (Vec<u8>, Vec<u8>)) {
 
 /// Puts faults of the trees into a draft, one or several; none where it has no room for them.
 fn with_tree_faults(mut draft: Draft, faults: usize, random: &mut Random) -> Option<Broken> {
-    let mut chosen: Vec<(&'static str, u32)> = TREE_FAULTS.to_vec();
+    let mut chosen: Vec<(&'static str, u32)> = tree_faults().collect();
     random.shuffle(&mut chosen);
     chosen.truncate(faults);
     // A main that is a field must stay main: this one goes last.
-    chosen.sort_by_key(|(label, _)| *label == "7 main is a field");
+    chosen.sort_by_key(|(label, _)| label.starts_with("7 main is a field"));
     for (label, number) in &chosen {
         tree_fault(label, *number, &mut draft, random)?;
     }
@@ -732,7 +827,9 @@ fn in_the_trees(faults: usize, random: &mut Random) -> Broken {
 fn in_dear_trees(random: &mut Random) -> Broken {
     loop {
         let cost = random.near(1_000_001, 3_000_000) as u64;
-        if let Some(broken) = with_tree_faults(grow::costing(cost, random), 1, random) {
+        // An nbr-lag in place of main leaves nothing that costs.
+        let dear = |broken: &Broken| broken.label != "7 main is a field: nbr-lag";
+        if let Some(broken) = with_tree_faults(grow::costing(cost, random), 1, random).filter(dear) {
             let label = match broken.expected {
                 Some((7, _)) => "7 with 10",
                 Some((8, _)) => "8 with 10",
@@ -832,7 +929,7 @@ pub fn spoiled(random: &mut Random) -> Broken {
         }
         _ => {
             let length = random.below(40);
-            program = (0..length).map(|_| random.byte() % 14).collect();
+            program = (0..length).map(|_| random.byte() % 15).collect();
             "spoiled: noise"
         }
     };

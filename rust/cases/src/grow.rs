@@ -1,7 +1,7 @@
 //! Accepted programs, grown at random within 01's limits.
 
 use crate::random::Random;
-use crate::table::{Draft, Tree};
+use crate::table::{Draft, Tree, MEASURES};
 
 /// How a program is to be grown.
 #[derive(Clone, Copy, Debug)]
@@ -14,11 +14,13 @@ pub struct Shape {
     pub spare: usize,
     /// Percent: how much of a budget goes into one operand.
     pub deep: usize,
+    /// The kinds of measures that may stand in it.
+    pub measures: &'static [u8],
 }
 
 impl Shape {
     pub fn any(random: &mut Random) -> Shape {
-        let small = Shape { nodes: 12, definitions: 0, cost: 400, spare: 0, deep: 20 };
+        let small = Shape { nodes: 12, definitions: 0, cost: 400, spare: 0, deep: 20, measures: &MEASURES };
         match random.below(10) {
             0 => Shape { nodes: random.between(1, 5), ..small },
             1 | 2 => Shape { nodes: random.between(6, 30), ..small },
@@ -315,7 +317,8 @@ impl Grower<'_> {
         match form {
             9 => {
                 let slot = self.slots.pop().expect("one was free");
-                self.node(9, &[slot], vec![])
+                let measure = self.random.pick(self.shape.measures);
+                self.node(measure, &[slot], vec![])
             }
             8 => {
                 let slot = self.slots.pop().expect("one was free");
@@ -398,8 +401,8 @@ pub fn costing(cost: u64, random: &mut Random) -> Draft {
     let levels = random.between(12, 16);
     let mut definitions = tower(levels);
     definitions.push((2, spend(levels, (cost - 3) / 15)));
-    let range = Tree::new(9, &[random.between(1, 15) as u8], vec![]);
-    let mut main = Tree::new(11, &[levels as u8], vec![Tree::constant(2), range]);
+    let field = Tree::new(random.pick(&MEASURES), &[random.between(1, 15) as u8], vec![]);
+    let mut main = Tree::new(11, &[levels as u8], vec![Tree::constant(2), field]);
     for _ in 0..(cost - 3) % 15 {
         main = Tree::new(4, &[], vec![main]);
     }
@@ -427,13 +430,13 @@ pub fn costing_64_bits(more: usize) -> Draft {
     Draft { definitions, main, orphans: vec![] }
 }
 
-/// 000's distance-to, sensor 1.
-pub fn distance_to(slots: [u8; 2], variable: u8) -> Draft {
+/// 000's distance-to, sensor 1; by this kind of measure, which is nbr-range in 000.
+pub fn distance_to(measure: u8, slots: [u8; 2], variable: u8) -> Draft {
     let parameter = |p: u8| Tree::new(1, &[p], vec![]);
     let less = Tree::new(3, &[4], vec![parameter(0), parameter(1)]);
     let min = Tree::new(6, &[], vec![less, parameter(0), parameter(1)]);
     let nbr = Tree::new(8, &[slots[0]], vec![Tree::new(2, &[variable], vec![])]);
-    let sum = Tree::sum(nbr, Tree::new(9, &[slots[1]], vec![]));
+    let sum = Tree::sum(nbr, Tree::new(measure, &[slots[1]], vec![]));
     let fold = Tree::new(11, &[0], vec![Tree::constant(i32::MAX), sum]);
     let mux = Tree::new(7, &[], vec![parameter(0), Tree::constant(0), fold]);
     let rep = Tree::new(5, &[variable], vec![Tree::constant(i32::MAX), mux]);

@@ -47,7 +47,7 @@ pub fn program(random: &mut Random) -> Vec<u8> {
     let draft = match random.below(20) {
         0 => {
             let slot = random.between(1, 14) as u8;
-            grow::distance_to([slot, slot + 1], random.below(16) as u8)
+            grow::distance_to(random.pick(&table::MEASURES), [slot, slot + 1], random.below(16) as u8)
         }
         1 => {
             let mut draft = grow::accepted(Shape { nodes: 256, ..Shape::any(random) }, random);
@@ -320,16 +320,16 @@ mod tests {
             kinds.extend(bodies.iter().map(|body| body[0]));
             // Which kinds stand right under which: operands follow the items.
             for body in &bodies {
-                let items = [4, 1, 1, 1, 0, 1, 0, 0, 1, 1, 1, 1, 1][usize::from(body[0])];
+                let (items, _) = table::LAYOUT[usize::from(body[0])];
                 parents.extend(body[1 + items..].iter().map(|child| (body[0], bodies[usize::from(*child)][0])));
             }
             nodes = nodes.max(bodies.len());
             definitions = definitions.max(counts.len());
-            slots = slots.max(of(8) + of(9));
+            slots = slots.max(bodies.iter().filter(|body| table::takes_slot(body[0])).count());
             variables = variables.max(of(5));
             parameters = parameters.max(counts.iter().copied().max().unwrap_or(0));
         }
-        assert_eq!(kinds, (0..=12).collect());
+        assert_eq!(kinds, (0..=13).collect());
         assert_eq!([nodes, definitions, slots, variables, parameters], [256, 32, 15, 16, 4]);
         // Every kind that gives a number stands under every kind that takes one, fields under all that take them.
         for parent in [3, 4, 5, 6, 7, 8, 10, 11, 12] {
@@ -338,7 +338,7 @@ mod tests {
             }
         }
         for parent in [3, 6, 10, 11] {
-            for child in [3, 6, 8, 9] {
+            for child in [3, 6, 8, 9, 13] {
                 assert!(parents.contains(&(parent, child)), "no kind {child} under kind {parent}");
             }
         }

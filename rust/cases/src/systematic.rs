@@ -1,10 +1,11 @@
-//! Cases that leave little to chance: every pair of edge numbers, every cell, every age, short histories of what is heard,
-//! every truncation, bit and event byte of some programs and events, and one long run.
+//! Cases that leave little to chance: every pair of edge numbers, every cell, every age, what nbr-range and nbr-lag may meet,
+//! also beside nbr in a rep, short histories of what is heard, every truncation, bit and event byte of some programs and
+//! events, and two long runs.
 
 use crate::grow::{self, Shape};
 use crate::network::ABSENT;
 use crate::random::Random;
-use crate::table::{bytes, split, write, Draft, Tree};
+use crate::table::{bytes, split, write, Draft, Tree, MEASURES};
 use crate::{events, network, Call, Case};
 
 const EDGES: [i32; 17] = [
@@ -44,15 +45,20 @@ fn case(label: &'static str, call: Call, program: &[u8]) -> Case {
 }
 
 fn plain(main: Tree) -> Vec<u8> {
-    let draft = Draft { definitions: vec![], main, orphans: vec![] };
+    written(Draft { definitions: vec![], main, orphans: vec![] })
+}
+
+fn written(draft: Draft) -> Vec<u8> {
     bytes(&write(&draft, true, &mut Random::new(0, 0)).fields)
 }
 
 /// The labels of all systematic cases.
-pub const LABELS: [&str; 10] = [
+pub const LABELS: [&str; 12] = [
     "each pair of edge numbers",
     "each cell",
     "each age",
+    "each measure",
+    "each operator on fields in a rep",
     "each history",
     "each truncation",
     "each truncation of a full table",
@@ -67,11 +73,15 @@ pub fn all(see: &mut dyn FnMut(Case)) {
     arithmetic(see);
     cells(see);
     ages(see);
+    measures(see);
+    fields_in_a_rep(see);
     histories(see);
     programs(see);
     full_table(see);
-    event_bytes(see);
-    see(long_run());
+    for measure in MEASURES {
+        event_bytes(measure, see);
+        see(long_run(measure));
+    }
 }
 
 /// Each operator on each pair of edge numbers: as numbers, as a field and a number both ways round, as two fields, folded.
@@ -152,11 +162,112 @@ fn ages(see: &mut dyn FnMut(Case)) {
     }
 }
 
-/// A sum of what is heard in slot 1; nothing is read or sent where sensor 1 is lit, and where sensor 0 is it faults.
+/// A fold of a measure's field: its numbers as digits to the base of 16, each 1 more, from the lowest device.
+fn digits(kind: u8, slot: u8) -> Vec<u8> {
+    let parameter = |p: u8| Tree::new(1, &[p], vec![]);
+    let shifted = Tree::new(3, &[2], vec![parameter(0), Tree::constant(16)]);
+    let digit = Tree::sum(parameter(1), Tree::constant(1));
+    let main = Tree::new(11, &[0], vec![Tree::constant(0), Tree::new(kind, &[slot], vec![])]);
+    written(Draft { definitions: vec![(2, Tree::sum(shifted, digit))], main, orphans: vec![] })
+}
+
+/// What a device may hold of a sender: age, distance, and the number heard in a slot; the mark where there is none.
+fn held() -> Vec<[i32; 3]> {
+    let mut all = vec![];
+    for age in [ABSENT, 0, 1, 2] {
+        for distance in [ABSENT, 0, 7] {
+            all.extend([ABSENT, 0, 5].map(|number| [age, distance, number]));
+        }
+    }
+    all
+}
+
+/// What nbr-range and nbr-lag make of all that a device may hold of two senders, one of which has the slot's number, over
+/// four rounds; then of one sender, each device and sender, in each slot.
+fn measures(see: &mut dyn FnMut(Case)) {
+    let mut with = |a: usize, slot: u8, senders: &[(usize, [i32; 3])]| {
+        let mut cells = network::fresh();
+        for (b, [age, distance, number]) in senders {
+            cells[network::age(a, *b)] = *age;
+            cells[network::heard(a, *b, 0)] = *distance;
+            cells[network::heard(a, *b, slot.into())] = *number;
+        }
+        for kind in MEASURES {
+            let list = events::fire(a as u8).repeat(4);
+            see(Case {
+                network: cells.clone(),
+                list,
+                space: 8,
+                ..case("each measure", Call::Run, &digits(kind, slot))
+            });
+        }
+    };
+    for one in held() {
+        for two in held() {
+            with(2, 3, &[(3, one), (9, two)]);
+        }
+    }
+    let heard_with_0: Vec<[i32; 3]> =
+        held().into_iter().filter(|[age, _, number]| *age != ABSENT && *number == 0).collect();
+    for pair in 0..256 {
+        for slot in 1..=15 {
+            let one = heard_with_0[(pair + usize::from(slot)) % heard_with_0.len()];
+            with(pair / 16 + 1, slot, &[(pair % 16 + 1, one)]);
+        }
+    }
+}
+
+/// A definition with a rep from its argument; the update sums, from what is stored, what an operator makes of nbr, nbr-range and
+/// nbr-lag (slots 1 to 3), in this order. Main calls it.
+fn rep_of_fields(o: u8, [first, second, third]: [u8; 3]) -> Vec<u8> {
+    let stored = || Tree::new(2, &[0], vec![]);
+    let field = |kind: u8| match kind {
+        8 => Tree::new(8, &[1], vec![stored()]),
+        9 => Tree::new(9, &[2], vec![]),
+        _ => Tree::new(13, &[3], vec![]),
+    };
+    let op = |l: Tree, r: Tree| Tree::new(3, &[o], vec![l, r]);
+    let update = Tree::new(10, &[0], vec![stored(), op(op(field(first), field(second)), field(third))]);
+    let rep = Tree::new(5, &[0], vec![Tree::new(1, &[0], vec![]), update]);
+    let main = Tree::new(12, &[0], vec![Tree::constant(3)]);
+    written(Draft { definitions: vec![(1, rep)], main, orphans: vec![] })
+}
+
+/// Each operator on nbr, nbr-range and nbr-lag in each order, in a rep in a called definition: four rounds of a device that
+/// holds its variable or does not, and has heard 9 in all slots and 3 in some.
+fn fields_in_a_rep(see: &mut dyn FnMut(Case)) {
+    let put = |cells: &mut [i32], b: usize, [age, distance, number, range, lag]: [i32; 5]| {
+        cells[network::age(2, b)] = age;
+        for (i, heard) in [distance, number, range, lag].into_iter().enumerate() {
+            cells[network::heard(2, b, i)] = heard;
+        }
+    };
+    for number in 0..9 * 6 * 2 * 72 {
+        let (o, order, stored, of_3) = (number % 9, number / 9 % 6, number / 54 % 2, number / 108);
+        let order = [[8, 9, 13], [8, 13, 9], [9, 8, 13], [9, 13, 8], [13, 8, 9], [13, 9, 8]][order];
+        let [range, lag] = [of_3 % 2, of_3 / 2 % 2].map(|heard| if heard == 1 { 0 } else { ABSENT });
+        let (distance, heard) = ([ABSENT, 7][of_3 / 4 % 2], [ABSENT, 0, -5][of_3 / 8 % 3]);
+        let mut cells = network::fresh();
+        put(&mut cells, 9, [1, 4, 6, 0, 0]);
+        put(&mut cells, 3, [(of_3 / 24) as i32, distance, heard, range, lag]);
+        cells[network::variable(2, 0)] = [ABSENT, 8][stored];
+        see(Case {
+            network: cells,
+            list: events::fire(2).repeat(4),
+            space: 8,
+            ..case("each operator on fields in a rep", Call::Run, &rep_of_fields(o as u8, order))
+        });
+    }
+}
+
+/// A sum of what is heard in slot 1, and 100 and the age for each device heard with 0 in slot 2; nothing is read or sent
+/// where sensor 1 is lit, and where sensor 0 is it faults.
 fn listens() -> Vec<u8> {
     let sense = |sensor: i32| Tree::new(4, &[], vec![Tree::constant(sensor)]);
-    let heard = Tree::new(10, &[0], vec![Tree::constant(0), Tree::new(8, &[1], vec![Tree::constant(5)])]);
-    let unless = Tree::new(6, &[], vec![sense(1), Tree::constant(0), heard]);
+    let total = |field: Tree| Tree::new(10, &[0], vec![Tree::constant(0), field]);
+    let heard = total(Tree::new(8, &[1], vec![Tree::constant(5)]));
+    let lags = total(Tree::sum(Tree::constant(100), Tree::new(13, &[2], vec![])));
+    let unless = Tree::new(6, &[], vec![sense(1), Tree::constant(0), Tree::sum(heard, lags)]);
     let rest = Tree::new(3, &[1], vec![Tree::constant(1), sense(0)]);
     plain(Tree::sum(unless, Tree::new(3, &[3], vec![Tree::constant(1), rest])))
 }
@@ -199,6 +310,8 @@ fn histories(see: &mut dyn FnMut(Case)) {
         let mut cells = linked.clone();
         for (b, state) in [(1, number % 7), (3, number / 7 % 7)] {
             (cells[network::heard(2, b, 1)], cells[network::age(2, b)]) = states[state];
+            // Whoever sends in slot 1 sends 0 in slot 2.
+            cells[network::heard(2, b, 2)] = if states[state].0 == ABSENT { ABSENT } else { 0 };
         }
         run(&cells, &[number / 49 % 6, number / 294]);
     }
@@ -207,10 +320,11 @@ fn histories(see: &mut dyn FnMut(Case)) {
 /// Each truncation and each flipped bit of some programs.
 fn programs(see: &mut dyn FnMut(Case)) {
     let mut random = Random::new(21, 21);
-    let mut drafts = vec![grow::distance_to([1, 2], 0), grow::calculation(&mut random)];
+    let mut drafts: Vec<Draft> = MEASURES.map(|measure| grow::distance_to(measure, [1, 2], 0)).into();
+    drafts.push(grow::calculation(&mut random));
     for nodes in [3, 9, 14, 20, 27, 35] {
-        drafts
-            .push(grow::accepted(Shape { nodes, definitions: nodes / 9, cost: 999, spare: 0, deep: 10 }, &mut random));
+        let shape = Shape { nodes, definitions: nodes / 9, cost: 999, spare: 0, deep: 10, measures: &MEASURES };
+        drafts.push(grow::accepted(shape, &mut random));
     }
     for draft in drafts {
         let program = bytes(&write(&draft, false, &mut random).fields);
@@ -228,7 +342,7 @@ fn programs(see: &mut dyn FnMut(Case)) {
 /// Each truncation of a program that fills its table.
 fn full_table(see: &mut dyn FnMut(Case)) {
     let mut random = Random::new(22, 22);
-    let shape = Shape { nodes: 256, definitions: 32, cost: 4_000, spare: 0, deep: 20 };
+    let shape = Shape { nodes: 256, definitions: 32, cost: 4_000, spare: 0, deep: 20, measures: &MEASURES };
     let mut draft = grow::accepted(shape, &mut random);
     grow::pad(&mut draft, 256);
     assert_eq!((draft.size(), draft.definitions.len()), (256, 32));
@@ -238,10 +352,14 @@ fn full_table(see: &mut dyn FnMut(Case)) {
     }
 }
 
-/// A run of 20,000 events of all devices.
-pub fn long_run() -> Case {
-    let mut random = Random::new(23, 23);
-    let program = bytes(&write(&grow::distance_to([1, 2], 0), true, &mut random).fields);
+/// A run of 20,000 events of all devices, by each measure.
+pub fn long_runs() -> [Case; 2] {
+    MEASURES.map(long_run)
+}
+
+fn long_run(measure: u8) -> Case {
+    let mut random = Random::new(23, measure.into());
+    let program = bytes(&write(&grow::distance_to(measure, [1, 2], 0), true, &mut random).fields);
     Case {
         network: network::busy(&ALL, &mut random),
         list: events::list(20_000, &ALL, 5, &mut random).concat(),
@@ -251,9 +369,9 @@ pub fn long_run() -> Case {
     }
 }
 
-/// Each byte of each event over all its values, on a network where the event is possible.
-fn event_bytes(see: &mut dyn FnMut(Case)) {
-    let program = bytes(&write(&grow::distance_to([1, 2], 0), true, &mut Random::new(0, 0)).fields);
+/// Each byte of each event over all its values, on a network where the event is possible, with a program of this measure.
+fn event_bytes(measure: u8, see: &mut dyn FnMut(Case)) {
+    let program = written(grow::distance_to(measure, [1, 2], 0));
     let mut cells = network::fresh();
     for (a, b) in [(1, 2), (2, 1), (1, 16), (16, 1)] {
         cells[network::heard(a, b, 0)] = 5;

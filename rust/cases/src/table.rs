@@ -2,6 +2,18 @@
 
 use crate::random::Random;
 
+/// By kind, the items before the operands, and the operands; a call's operands depend on its definition.
+pub const LAYOUT: [(usize, usize); 14] =
+    [(4, 0), (1, 0), (1, 0), (1, 2), (0, 1), (1, 2), (0, 3), (0, 3), (1, 1), (1, 0), (1, 2), (1, 2), (1, 0), (1, 0)];
+
+/// nbr-range and nbr-lag: leaves that send 0 in their slot, and differ by what they measure.
+pub const MEASURES: [u8; 2] = [9, 13];
+
+/// Whether nodes of this kind take a slot, and so are fields: nbr and the measures.
+pub fn takes_slot(kind: u8) -> bool {
+    kind == 8 || MEASURES.contains(&kind)
+}
+
 /// A node: kind, the items before its operands, the operands. In every kind the bytes come in this order.
 #[derive(Clone, Debug)]
 pub struct Tree {

@@ -52,7 +52,7 @@ pub fn heard(a: i64, b: i64, i: i64) -> Option<usize> {
 
 /// The age of what `a` last heard from `b`: how many rounds `a` has completed since, 0 to 2; the mark where nothing was
 /// heard, where it has faded, and for `a` itself. It is present where a slot heard from `b` is; of an empty message it
-/// is present without one.
+/// is present without one. Programs read it by nbr-lag.
 #[must_use]
 pub fn age(a: i64, b: i64) -> Option<usize> {
     Some(block(a)? + FIRST_AGE + above(b, 1, DEVICES)?)

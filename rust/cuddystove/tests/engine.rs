@@ -37,7 +37,8 @@ fn all(space: &[i32]) -> Vec<Answer> {
 fn check_accepts_and_refuses() {
     assert_eq!(check(&COUNTER), Ok(()));
     assert_eq!(number_and_place(check(&[])), (6, 0));
-    assert_eq!(number_and_place(check(&[1, 0, 1, 13])), (3, 0));
+    assert_eq!(number_and_place(check(&[1, 0, 1, 14])), (3, 0));
+    assert_eq!(number_and_place(check(&[1, 0, 1, 13])), (1, 0));
     for cut in 1..COUNTER.len() {
         assert!(check(&COUNTER[..cut]).is_err(), "cut after {cut}");
     }

@@ -192,10 +192,20 @@ fn nothing_to_take() {
 const SEVENS: [u8; 33] =
     [1, 0, 5, 0, 0, 0, 0, 0, 1, 0, 5, 0, 0, 0, 0, 7, 1, 0, 3, 8, 1, 1, 1, 0, 4, 10, 0, 0, 2, 3, 0, 1, 3];
 
-fn does(network: &mut [i32], list: &[u8]) -> [i32; 2] {
+/// (fold-hood* + 0 (+ 10 (nbr-lag))) with its nbr-lag in slot 1: 10 and its age for each device heard.
+const LAGS: [u8; 39] = [
+    1, 0, 5, 0, 0, 0, 0, 0, 1, 0, 5, 0, 0, 0, 0, 10, 1, 0, 2, 13, 1, 1, 0, 4, 3, 0, 1, 2, 1, 0, 4, 10, 0, 0, 3, 3, 0,
+    1, 4,
+];
+
+fn does_by(program: &[u8], network: &mut [i32], list: &[u8]) -> [i32; 2] {
     let mut space = [5; 2];
-    assert_eq!(event(&SEVENS, network, list, &mut space), Ok(()));
+    assert_eq!(event(program, network, list, &mut space), Ok(()));
     space
+}
+
+fn does(network: &mut [i32], list: &[u8]) -> [i32; 2] {
+    does_by(&SEVENS, network, list)
 }
 
 /// A receipt sets the age, and rounds add to it; a put and a take leave it as it is.
@@ -223,6 +233,25 @@ fn a_message_fades() {
     assert_eq!(does(&mut network, fire.as_bytes()), [0, 9]);
     assert_eq!((network[age], network[heard]), (ABSENT, ABSENT));
     assert_eq!(does(&mut network, fire.as_bytes()), [0, 0]);
+}
+
+/// nbr-lag sends 0, and gives the age of a message as its receipt and the rounds since have left it; no link is needed.
+#[test]
+fn a_message_lags() {
+    let (mut one, mut two) = (fresh_network(), fresh_network());
+    let (link, fire) = (Event::link(1, 2, 40).expect("bytes"), [1, 2].map(|a| Event::fire(a).expect("bytes")));
+    assert_eq!(does_by(&LAGS, &mut one, link.as_bytes()), [0, 0]);
+    assert_eq!(does_by(&LAGS, &mut one, fire[0].as_bytes()), [0, 0]);
+    let message = taken(&mut one, 1, 2).expect("it was fired");
+    assert_eq!(message, [1, 2, 0, 2, 0, 0, 0, 0]);
+    // The same with 5 in the slot: such a device is in no field of lags.
+    for (sent, values) in [(0, [10, 11, 12, 0]), (5, [0, 0, 0, 0])] {
+        assert_eq!(put(&mut two, &[1, 2, 0, 2, 0, 0, 0, sent]), Some((1, 2)));
+        assert_eq!(does_by(&LAGS, &mut two, Event::deliver(1, 2).expect("bytes").as_bytes()), [0, 0]);
+        for value in values {
+            assert_eq!(does_by(&LAGS, &mut two, fire[1].as_bytes()), [0, value], "{sent} in the slot");
+        }
+    }
 }
 
 /// Tablets 1 and 2, each with its own network, and the office with one network for both.

@@ -402,13 +402,15 @@ fn alike(engines: [&dyn Engine; 2], first: &[Outcome], second: &[Outcome]) -> Re
     }
 }
 
-/// Compares every mutant with an engine, first on the long run, then on random cases; each mutant with the number of
-/// cases after which it was caught, if it was. An error if the engine itself did not do a case.
+/// Compares every mutant with an engine on random cases, and after the first thousand of them, which catch most, on the
+/// long runs; fewer cases come without these. Each mutant with the number of cases after which it was caught, if it was. An
+/// error if the engine itself did not do a case.
 pub fn catch_mutants(engine: &dyn Engine, seed: u64, count: u64) -> Result<Vec<(Mutant, Option<u64>)>, String> {
     let mut mutants: Vec<(Mutant, Option<u64>)> = mutants::all().map(|mutant| (mutant, None)).collect();
-    let long = std::iter::once_with(cases::systematic::long_run);
-    let random = (0..count).map(|index| cases::nth(seed, index));
-    for (number, case) in long.chain(random).enumerate() {
+    let random = |from: u64, to: u64| (from..to).map(|index| cases::nth(seed, index));
+    let first = count.min(1_000);
+    let long = (count > first).then(cases::systematic::long_runs).into_iter().flatten();
+    for (number, case) in random(0, first).chain(long).chain(random(first, count)).enumerate() {
         if mutants.iter().all(|(_, caught)| caught.is_some()) {
             break;
         }

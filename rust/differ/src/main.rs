@@ -113,7 +113,7 @@ fn mutants(seed: u64, cases: u64) -> bool {
     }
     caught.sort();
     println!(
-        "mutants: {} caught within a long run and {cases} cases, {} missed, {:.1} s",
+        "mutants: {} caught within {cases} cases and two long runs, {} missed, {:.1} s",
         caught.len(),
         missed.len(),
         start.elapsed().as_secs_f32()

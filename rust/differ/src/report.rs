@@ -133,6 +133,6 @@ mod tests {
     #[test]
     fn answers_have_their_own_labels() {
         assert_eq!(answers::LABELS.into_iter().collect::<BTreeSet<_>>().len(), answers::LABELS.len());
-        assert_eq!(cases::labels().len(), 145);
+        assert_eq!(cases::labels().len(), 175);
     }
 }

@@ -1,12 +1,13 @@
 //! The comparison finds no difference where there is none, and finds every bug that was put in.
 
-use cases::table::split;
+use cases::table::{split, LAYOUT};
 use cases::{Call, Case};
 use differ::{catch_mutants, compare, compare_all, Both, Engine, Report, Returned, Second};
 use mutants::Mutant;
+use std::collections::BTreeSet;
 use std::process::Command;
 
-const MUTANTS: usize = 266;
+const MUTANTS: usize = 350;
 
 fn alike(report: &Report) {
     if let Some(difference) = &report.difference {
@@ -55,19 +56,87 @@ fn faults(case: &Case) -> usize {
     [program.0 != 0, network.0 != 0, list, case.space < 2 * events].into_iter().filter(|bad| *bad).count()
 }
 
+/// The kinds that a label of a slot taken twice names: the one that takes it, the one that has it.
+fn kinds_of_slot(label: &str) -> Option<[u8; 2]> {
+    let (taker, owner) = label.strip_prefix("5 slot of ")?.split_once(" taken by ")?;
+    let kind = |name: &str| match name {
+        "nbr" => 8,
+        "nbr-range" => 9,
+        "nbr-lag" => 13,
+        _ => panic!("{label}"),
+    };
+    Some([kind(taker), kind(owner)])
+}
+
+/// Whether the field at the case's place is a node of the first kind, and one before it of the second, with its slot.
+fn takes_a_slot_twice(case: &Case, [taker, owner]: [u8; 2]) -> bool {
+    let fields = split(&case.program);
+    let place = case.expected.and_then(|(_, place)| place).expect("it is known");
+    let node = |field: &[u8], kind: u8, slot: u8| field[0] == 1 && field[3..5] == [kind, slot];
+    let slot = fields[place][4];
+    node(fields[place], taker, slot) && fields[..place].iter().any(|field| field.len() > 4 && node(field, owner, slot))
+}
+
+/// The kind of node that a label of an nbr-lag as operand names, and which operand.
+fn operand_of_lag(label: &str) -> Option<(u8, usize)> {
+    Some(match label.strip_suffix(": nbr-lag")? {
+        "7 sense of a field" => (4, 0),
+        "7 rep with a field as initial part" => (5, 0),
+        "7 rep with a field as update" => (5, 1),
+        "7 if with a field as condition" => (6, 0),
+        "7 if with a field and a number" => (6, 1),
+        "7 if with a number and a field" => (6, 2),
+        "7 mux with a field as condition" => (7, 0),
+        "7 mux with a field as then" | "7 mux with two fields" => (7, 1),
+        "7 mux with a field as else" => (7, 2),
+        "7 nbr of a field" => (8, 0),
+        "7 fold by operator from a field" => (10, 0),
+        "7 fold by definition from a field" => (11, 0),
+        _ => return None,
+    })
+}
+
+/// Whether a case that is labelled so has its nbr-lag: as the field at its place, as the operand named of the offending
+/// node, as that node or an argument of it, or, where the label says no more, anywhere.
+fn has_its_lag(case: &Case) -> bool {
+    let fields = split(&case.program);
+    let nodes: Vec<&[u8]> = fields.iter().filter(|field| field[0] == 1).map(|field| &field[3..]).collect();
+    match case.expected {
+        Some((1..=5, Some(place))) => fields[place][0] == 1 && fields[place][3] == 13,
+        Some((7, Some(place))) => {
+            let of = nodes[place][0];
+            let operands = &nodes[place][1 + LAYOUT[usize::from(of)].0..];
+            let is_lag = |operand: &u8| nodes[usize::from(*operand)][0] == 13;
+            match operand_of_lag(case.label) {
+                Some((kind, at)) => of == kind && is_lag(&operands[at]),
+                None => of == 13 || of == 12 && operands.iter().any(is_lag),
+            }
+        }
+        _ => nodes.iter().any(|node| node[0] == 13),
+    }
+}
+
 /// Labels hold what they say where the refusal alone doesn't show it.
 #[test]
 fn labels_hold_what_they_say() {
+    let mut slots = BTreeSet::new();
     for case in (0..12_000).map(|index| cases::nth(106, index)) {
+        if let Some(kinds) = kinds_of_slot(case.label) {
+            slots.insert(kinds);
+            assert!(takes_a_slot_twice(&case, kinds), "{case:?}");
+            continue;
+        }
         match case.label {
             "1-12 several at once" => assert!(faults(&case) > 1, "{case:?}"),
             "6 main in the middle" => {
                 let fields = split(&case.program);
                 assert!(fields[1..fields.len() - 1].iter().any(|field| field[0] == 3), "{:02x?}", case.program);
             }
+            label if label.contains("nbr-lag") => assert!(has_its_lag(&case), "{case:?}"),
             _ => {}
         }
     }
+    assert_eq!(slots.len(), 9, "{slots:?}");
 }
 
 /// Too few cases are refused unless that is meant.
@@ -100,7 +169,7 @@ fn mutants_can_be_missed() {
 /// Each bug has a name of its own; README and the gate's log count them.
 #[test]
 fn mutants_are_counted() {
-    let names: std::collections::BTreeSet<&str> = mutants::all().map(Mutant::name).collect();
+    let names: BTreeSet<&str> = mutants::all().map(Mutant::name).collect();
     assert_eq!((names.len(), mutants::all().count()), (MUTANTS, MUTANTS));
 }
 

@@ -1,6 +1,6 @@
 //! A round: one device evaluates the program against what it holds.
 
-use super::network::{Device, Field, Message};
+use super::network::{Device, Field, Message, READINGS};
 use super::number::{DividedByZero, Operator};
 use super::tree::{Form, Node};
 use std::collections::BTreeMap;
@@ -126,6 +126,10 @@ impl Round<'_> {
                 field.retain(|device, _| heard.get(device) == Some(&0));
                 Value::Field(field)
             }
+            Form::NbrLag { slot } => {
+                let lags = self.lags(*slot);
+                Value::Field(lags)
+            }
             Form::FoldByOperator { operator, initial, field } => {
                 let mut so_far = self.number(initial, parameters)?;
                 for next in self.field(field, parameters)?.into_values() {
@@ -148,6 +152,19 @@ impl Round<'_> {
                 Value::Number(self.number(&definition.body, &numbers)?)
             }
         })
+    }
+
+    /// Sends 0 in a slot; for each device heard with 0 in it, how many rounds have read what it sent.
+    fn lags(&mut self, slot: u8) -> Field {
+        self.sent.insert(slot, 0);
+        let mut lags = Field::new();
+        for (b, message) in &self.device.heard {
+            let age = READINGS - self.device.readings[b];
+            if message.get(&slot) == Some(&0) {
+                lags.insert(*b, age);
+            }
+        }
+        lags
     }
 
     /// The field of the devices heard in a slot.

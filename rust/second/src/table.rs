@@ -68,7 +68,7 @@ fn layout(kind: u8) -> Option<&'static [Item]> {
         5 => &[Rep, Node, Node],
         6 | 7 => &[Node, Node, Node],
         8 => &[Slot, Node],
-        9 => &[Slot],
+        9 | 13 => &[Slot],
         10 => &[Operator, Node, Node],
         11 => &[Definition, Node, Node],
         12 => &[Definition],
@@ -238,6 +238,10 @@ impl Table {
             (9, &[slot]) => {
                 self.slots.insert(slot);
                 Form::NbrRange { slot }
+            }
+            (13, &[slot]) => {
+                self.slots.insert(slot);
+                Form::NbrLag { slot }
             }
             (10, &[o, initial, field]) => Form::FoldByOperator {
                 operator: OPERATORS[usize::from(o)],

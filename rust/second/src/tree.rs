@@ -32,6 +32,7 @@ pub enum Form {
     Mux { condition: Box<Node>, then: Box<Node>, otherwise: Box<Node> },
     Nbr { slot: u8, child: Box<Node> },
     NbrRange { slot: u8 },
+    NbrLag { slot: u8 },
     FoldByOperator { operator: Operator, initial: Box<Node>, field: Box<Node> },
     FoldByDefinition { definition: Rc<Definition>, initial: Box<Node>, field: Box<Node> },
     Call { definition: Rc<Definition>, arguments: Vec<Node> },
@@ -80,7 +81,7 @@ pub struct Program {
 impl Node {
     pub fn new(number: usize, form: Form) -> Node {
         let sort = match &form {
-            Form::Nbr { .. } | Form::NbrRange { .. } => Sort::Field,
+            Form::Nbr { .. } | Form::NbrRange { .. } | Form::NbrLag { .. } => Sort::Field,
             Form::Operator { left, right, .. } if left.sort == Sort::Field || right.sort == Sort::Field => Sort::Field,
             Form::If { then, .. } => then.node.sort,
             _ => Sort::Number,
@@ -90,7 +91,8 @@ impl Node {
 
     fn children(&self) -> Vec<&Node> {
         match &self.form {
-            Form::Constant(_) | Form::Parameter(_) | Form::Variable(_) | Form::NbrRange { .. } => vec![],
+            Form::Constant(_) | Form::Parameter(_) | Form::Variable(_) => vec![],
+            Form::NbrRange { .. } | Form::NbrLag { .. } => vec![],
             Form::Sense { child } | Form::Nbr { child, .. } => vec![child],
             Form::Operator { left, right, .. } => vec![left, right],
             Form::Rep { initial, update, .. } => vec![initial, update],
@@ -127,7 +129,7 @@ impl Node {
         let mut spatial = false;
         self.walk(&mut |node| {
             spatial |= match &node.form {
-                Form::Rep { .. } | Form::Nbr { .. } | Form::NbrRange { .. } => true,
+                Form::Rep { .. } | Form::Nbr { .. } | Form::NbrRange { .. } | Form::NbrLag { .. } => true,
                 Form::Call { definition, .. } => definition.spatial,
                 _ => false,
             }

@@ -9,12 +9,7 @@ fn listens() -> Vec<u8> {
     let five = t.constant(5);
     let nbr = t.node(&[8, 1, five]);
     let fold = t.node(&[10, ADD, zero, nbr]);
-    let one = t.constant(1);
-    let whole = t.constant(1);
-    let sensor = t.constant(0);
-    let sense = t.node(&[4, sensor]);
-    let rest = t.node(&[3, SUB, whole, sense]);
-    let division = t.node(&[3, DIV, one, rest]);
+    let division = t.faults_when_lit();
     let sum = t.node(&[3, ADD, fold, division]);
     t.main(sum)
 }
@@ -34,13 +29,6 @@ fn linked() -> Vec<i32> {
         network[heard_cell(b, 2, 0)] = 10;
     }
     network
-}
-
-/// Does events one after the other, each answered 0; of fires the values.
-fn values(program: &[u8], network: &mut [i32], events: &[Vec<u8>]) -> Vec<i32> {
-    let answers = run(program, network, events);
-    assert!(answers.iter().all(|(code, _)| *code == 0), "{answers:?}");
-    answers.iter().zip(events).filter(|(_, event)| event[0] == 0x10).map(|((_, value), _)| *value).collect()
 }
 
 /// Of what 2 heard from b: slot 1 and the age.

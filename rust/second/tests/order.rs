@@ -55,8 +55,10 @@ fn what_fades_in_another_order() {
     let left = [&sends(1)[..], &[fire(2), fire(2), fire(2), fire(2)]].concat();
     let right = [&sends(8)[..], &[fire(9), link(9, 8, 5), signal(9, 1, 1), lose(8, 9)]].concat();
     let woven: Vec<Vec<u8>> = left.iter().zip(&right).flat_map(|(l, r)| [l.clone(), r.clone()]).collect();
-    alike(&distance_to(), &[&left[..], &right[..]].concat(), &[&right[..], &left[..]].concat());
-    alike(&distance_to(), &[&left[..], &right[..]].concat(), &woven);
+    for program in [distance_to(), distance_by(13)] {
+        alike(&program, &[&left[..], &right[..]].concat(), &[&right[..], &left[..]].concat());
+        alike(&program, &[&left[..], &right[..]].concat(), &woven);
+    }
     let mut network = fresh();
     run(&distance_to(), &mut network, &woven);
     assert_eq!((network[age_cell(2, 1)], network[age_cell(9, 8)]), (ABSENT, 1));

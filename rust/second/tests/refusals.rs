@@ -19,7 +19,7 @@ fn after_two(tag: u8, body: &[u8]) -> (u32, usize) {
     check(&t.bytes)
 }
 
-const BODIES: [&[u8]; 13] = [
+const BODIES: [&[u8]; 14] = [
     &[0, 0, 0, 0, 7],
     &[1, 0],
     &[2, 0],
@@ -33,6 +33,7 @@ const BODIES: [&[u8]; 13] = [
     &[10, 0, 0, 1],
     &[11, 0, 0, 1],
     &[12, 0],
+    &[13, 1],
 ];
 
 #[test]
@@ -123,7 +124,7 @@ fn refusal_2_257th_node() {
     assert_eq!(check(&t.clone().main(last)), (0, 0));
     t.node(&[4, last]);
     assert_eq!(check(&t.bytes), (2, 256));
-    for body in [&[13][..], &[255, 1, 2], &[0], &[4, 255]] {
+    for body in [&[13][..], &[13, 0], &[13, 1], &[14], &[255, 1, 2], &[0], &[4, 255]] {
         let (mut t, _) = chain(256);
         t.field(1, body);
         assert_eq!(check(&t.bytes), (2, 256), "the 257th comes before {body:?}");
@@ -156,7 +157,7 @@ fn refusal_2_33rd_definition() {
 
 #[test]
 fn refusal_3_ranges() {
-    for kind in [13, 14, 255] {
+    for kind in [14, 15, 255] {
         assert_eq!(after_two(1, &[kind]), (3, 2), "unknown kind");
         assert_eq!(after_two(1, &[kind, 0, 0, 0, 0, 0, 0]), (3, 2), "unknown kind");
     }
@@ -170,6 +171,9 @@ fn refusal_3_ranges() {
         &[8, 16, 0],
         &[9, 0],
         &[9, 16],
+        &[13, 0],
+        &[13, 16],
+        &[13, 255],
         &[10, 9, 0, 1],
         // Range comes before naming and taken.
         &[3, 9, 7, 7],
@@ -262,6 +266,7 @@ fn refusal_5_taken() {
         &[8, 1, 1],
         &[8, 2, 0],
         &[9, 1],
+        &[13, 1],
         &[10, 0, 0, 1],
         &[10, 0, 1, 0],
     ] {
@@ -293,13 +298,13 @@ fn refusal_6_table_end() {
 
 #[test]
 fn refusal_7_sorts() {
-    // One field is node 0, one number node 1; `body` names them.
-    let offends = |body: &[u8]| {
+    // One field is node 0, of this kind, one number node 1; `body` names them.
+    let offends = |kind: u8, body: &[u8]| {
         let mut t = Table::new();
-        let range = t.range(15);
+        let field = t.node(&[kind, 15]);
         let number = t.constant(1);
         let extra = t.constant(2);
-        assert_eq!((range, number, extra), (0, 1, 2));
+        assert_eq!((field, number, extra), (0, 1, 2));
         let p = t.parameter(0);
         t.define(2, p);
         let node = t.node(body);
@@ -313,17 +318,26 @@ fn refusal_7_sorts() {
         }
         (check(&t.main(left[0])), usize::from(node))
     };
-    for body in [&[4, 0][..], &[5, 9, 0, 1], &[5, 9, 1, 0], &[6, 0, 1, 2], &[6, 1, 0, 2], &[6, 1, 2, 0]] {
-        let (outcome, node) = offends(body);
-        assert_eq!(outcome, (7, node), "{body:?}");
-    }
-    for body in [&[7, 0, 1, 2][..], &[7, 1, 0, 2], &[7, 1, 2, 0], &[8, 14, 0], &[10, 8, 0, 1], &[10, 8, 1, 2]] {
-        let (outcome, node) = offends(body);
-        assert_eq!(outcome, (7, node), "{body:?}");
-    }
-    for body in [&[12, 0, 0, 1][..], &[12, 0, 1, 0]] {
-        let (outcome, node) = offends(body);
-        assert_eq!(outcome, (7, node), "{body:?}");
+    for body in [
+        &[4, 0][..],
+        &[5, 9, 0, 1],
+        &[5, 9, 1, 0],
+        &[6, 0, 1, 2],
+        &[6, 1, 0, 2],
+        &[6, 1, 2, 0],
+        &[7, 0, 1, 2],
+        &[7, 1, 0, 2],
+        &[7, 1, 2, 0],
+        &[8, 14, 0],
+        &[10, 8, 0, 1],
+        &[10, 8, 1, 2],
+        &[12, 0, 0, 1],
+        &[12, 0, 1, 0],
+    ] {
+        for kind in [9, 13] {
+            let (outcome, node) = offends(kind, body);
+            assert_eq!(outcome, (7, node), "{body:?}, kind {kind}");
+        }
     }
 }
 
@@ -506,14 +520,14 @@ fn refusal_10_cost() {
 
 #[test]
 fn refusal_10_folds_count_fifteen_times() {
-    // 15 times 66,666 and the fold with its two operands make 999,993.
-    for (more, expected) in [(7, (0, 0)), (8, (10, 0))] {
+    // 15 times 66,666 and the fold with its two operands, one of them nbr-range or nbr-lag, make 999,993.
+    for (kind, more, expected) in [(9, 7, (0, 0)), (9, 8, (10, 0)), (13, 7, (0, 0)), (13, 8, (10, 0))] {
         let (mut t, top) = tower(15);
         let body = spend(&mut t, top, 66_666);
         let d = t.define(2, body);
         let zero = t.constant(0);
-        let range = t.range(1);
-        let mut main = t.node(&[11, d, zero, range]);
+        let field = t.node(&[kind, 1]);
+        let mut main = t.node(&[11, d, zero, field]);
         for _ in 0..more {
             main = t.node(&[4, main]);
         }

@@ -50,14 +50,18 @@ returns-12 : tie.Need-returns-12
 returns-12 c = search needs
 
 returns-13 : tie.Need-returns-13
-returns-13 c =
+returns-13 c = search needs
+
+returns-14 : tie.Need-returns-14
+returns-14 c =
+    let m = c .match .rest .0 in
     let e : c .before .args .kind ≡ callKind = omega (
       arith,
       c .before .pre,
-      (past (past (past (past (past (past (past (past (past (past (past (past (omega arith) (c .match .rest .0 .0 .0 .0 .0 .0 .0 .0 .0 .0 .0 .1))
-          (c .match .rest .0 .0 .0 .0 .0 .0 .0 .0 .0 .0 .1)) (c .match .rest .0 .0 .0 .0 .0 .0 .0 .0 .0 .1)) (c .match .rest .0 .0 .0 .0 .0 .0 .0 .0 .1))
-          (c .match .rest .0 .0 .0 .0 .0 .0 .0 .1)) (c .match .rest .0 .0 .0 .0 .0 .0 .1)) (c .match .rest .0 .0 .0 .0 .0 .1)) (c .match .rest .0 .0 .0 .0 .1))
-          (c .match .rest .0 .0 .0 .1)) (c .match .rest .0 .0 .1)) (c .match .rest .0 .1)) (c .match .rest .1)),
+      c .match .rest .1,
+      (past (past (past (past (past (past (past (past (past (past (past (past (omega arith) (m .0 .0 .0 .0 .0 .0 .0 .0 .0 .0 .0 .1))
+          (m .0 .0 .0 .0 .0 .0 .0 .0 .0 .0 .1)) (m .0 .0 .0 .0 .0 .0 .0 .0 .0 .1)) (m .0 .0 .0 .0 .0 .0 .0 .0 .1)) (m .0 .0 .0 .0 .0 .0 .0 .1))
+          (m .0 .0 .0 .0 .0 .0 .1)) (m .0 .0 .0 .0 .0 .1)) (m .0 .0 .0 .0 .1)) (m .0 .0 .0 .1)) (m .0 .0 .1)) (m .0 .1)) (m .1)),
     ) in rw e
 
 pub form-by-spec : {M : Type 1} → statement M
@@ -78,4 +82,5 @@ form-by-spec =
     returns-10
     returns-11
     returns-12
-    returns-13)
+    returns-13
+    returns-14)

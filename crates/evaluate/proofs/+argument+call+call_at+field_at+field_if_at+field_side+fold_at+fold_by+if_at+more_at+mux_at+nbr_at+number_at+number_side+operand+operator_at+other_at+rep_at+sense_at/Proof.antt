@@ -26,9 +26,9 @@ use Rattle.apply.specs.State.{stateOf, faultOf}
 use Rattle.apply.proofs.Laws.{state-variable, clear, goes, fails, gives, gave, passed, on-numbers, on-fields, numbers-read, stores, sends}
 use Rattle.apply.proofs.Folding.{along, fold-starts, fold-ends, fold-turns}
 use Rattle.leaf.proofs.Evaluates.{right, rules, field-rules, ev, ev-oper, ev-sense, ev-rep, ev-if, ev-mux, ev-fold, ev-foldop, ev-least, ev-folds, ev-bare, ev-first}
-use Rattle.leaf.proofs.Evaluates.{ev-nbr, ev-range, ev-iff, ev-operf}
+use Rattle.leaf.proofs.Evaluates.{ev-nbr, ev-measure, ev-iff, ev-operf}
 use Rattle.leaf.proofs.Evaluates.{second-none, second-there, third-none, third-there, fourth-read, an-argument, no-argument}
-use Rattle.leaf.proofs.Asks.{asks, asks-field, asks-side, asks-arg, asks-call, asks-fold, asks-leaf, asks-pair, mask-of, either, fold-parts, by-operator, is-other, is-fold, is-operator}
+use Rattle.leaf.proofs.Asks.{asks, asks-field, asks-side, asks-arg, asks-call, asks-fold, asks-leaf, asks-pair, mask-of, either, fold-parts, by-operator, is-other, is-fold}
 use Rattle.leaf.proofs.Numbers.{env-read, from-read, second-read, third-read, least-read, moved, same, other}
 use borrow.Fn.Kinds.{In}
 use borrow.Fn.PlainCycle.{Measures, is, falls, and}
@@ -101,7 +101,7 @@ use Rattle.domain.proofs.no_field.Reads as no-field-reads
 use Rattle.domain.proofs.size.Reads as size-reads
 use Rattle.domain.proofs.spread.Reads as spread-reads
 use Rattle.domain.proofs.without.Reads as without-reads
-use Rattle.evaluate.proofs.range_at.Reads as range-at-reads
+use Rattle.evaluate.proofs.measured_at.Reads as measured-at-reads
 use Rattle.heard.proofs.heard_of.Reads as heard-of-reads
 use Rattle.leaf.proofs.leaf.Reads as leaf-reads
 use Rattle.leaf.proofs.pair.Reads as pair-reads
@@ -335,10 +335,6 @@ field-at-calls t = (
   form-of-reads.Learnt,
   nbr-at-below t,
   nbr-at.Post,
-  item-of-reads.Asked,
-  item-of-reads.Learnt,
-  range-at-reads.Asked,
-  range-at-reads.Learnt,
   field-if-at-below t,
   field-if-at.Post,
   first-reads.Asked,
@@ -349,8 +345,12 @@ field-at-calls t = (
   no-field-reads.Learnt,
   second-reads.Asked,
   second-reads.Learnt,
+  item-of-reads.Asked,
+  item-of-reads.Learnt,
   field-op-reads.Asked,
   field-op-reads.Learnt,
+  measured-at-reads.Asked,
+  measured-at-reads.Learnt,
 )
 
 abbrev field-if-at-calls : ℕ → field-if-at-lts.Claims
@@ -774,23 +774,12 @@ field-at-nbr-at-requires t c κs =
     let s = at-form-of .before .before in
     (omega (arith, s .pre .0), (s .pre .1, sym (at-form-of .form-of .ensures) ∙ at-match .match .keys1))
 
-field-at-item-of-requires : (t : ℕ) → field-at-lts.Need-item-of-requires (field-at-calls t) (field-at-at t) field-at.Post
-field-at-item-of-requires t c κs = search needs
-
-field-at-cast-range-at : (t : ℕ) → field-at-lts.Need-cast-range-at (field-at-calls t) (field-at-at t) field-at.Post
-field-at-cast-range-at t c = search needs
-
-field-at-range-at-requires : (t : ℕ) → field-at-lts.Need-range-at-requires (field-at-calls t) (field-at-at t) field-at.Post
-field-at-range-at-requires t c κs =
-    let s = c .before .before .before .before .before in
-    (omega (arith, c .item-of .ensures), s .pre .1 .clear)
-
 field-at-field-if-at-requires : (t : ℕ) → field-at-lts.Need-field-if-at-requires (field-at-calls t) (field-at-at t) field-at.Post
 field-at-field-if-at-requires t c κs =
     let at-match = c .before in
     let at-form-of = at-match .before in
     let s = at-form-of .before .before in
-    (omega (arith, s .pre .0), (s .pre .1, sym (at-form-of .form-of .ensures) ∙ at-match .match .keys3))
+    (omega (arith, s .pre .0), (s .pre .1, sym (at-form-of .form-of .ensures) ∙ at-match .match .keys2))
 
 field-at-first-requires : (t : ℕ) → field-at-lts.Need-first-requires (field-at-calls t) (field-at-at t) field-at.Post
 field-at-first-requires t c κs = search needs
@@ -800,8 +789,7 @@ field-at-field-side-requires t c κs =
     let at-match = c .before .before in
     let at-form-of = at-match .before in
     let s = at-form-of .before .before in
-    let z = is-operator (at-form-of .form-of .ensures) (s .pre .1 .sort) (field-rules (s .pre .1) .known) (at-match .match .rest .0 .0 .1) (at-match .match .rest .0 .1)
-    (at-match .match .rest .1) in
+    let z = sym (at-form-of .form-of .ensures) ∙ at-match .match .keys3 in
     asks-side 4 (s .pre .0) (s .pre .1 .sound) (s .pre .1 .inside) (c .first .ensures) (s .pre .1 .clear)
     ((field-rules (s .pre .1) .operF z) .0)
 
@@ -819,8 +807,7 @@ field-at-returns t c =
     let at-match = at-first .before .before in
     let at-form-of = at-match .before in
     let s = at-form-of .before .before in
-    let z = is-operator (at-form-of .form-of .ensures) (s .pre .1 .sort) (field-rules (s .pre .1) .known) (at-match .match .rest .0 .0 .1) (at-match .match .rest .0 .1)
-    (at-match .match .rest .1) in
+    let z = sym (at-form-of .form-of .ensures) ∙ at-match .match .keys3 in
     gives
     (ev-operf (s .pre .1) (s .args .here .now) (s .args .env .now) (stateOf (s .args .st .now)) z _ _ _ refl (at-first .first .ensures) refl)
     (fails _ _ (at-field-side .field-side .ensures .leaves) (at-if1 .if1 .taken))
@@ -836,8 +823,7 @@ field-at-field-side-requires-2 t c κs =
     let at-match = at-field-side .before .before .before in
     let at-form-of = at-match .before in
     let s = at-form-of .before .before in
-    let z = is-operator (at-form-of .form-of .ensures) (s .pre .1 .sort) (field-rules (s .pre .1) .known) (at-match .match .rest .0 .0 .1) (at-match .match .rest .0 .1)
-    (at-match .match .rest .1) in
+    let z = sym (at-form-of .form-of .ensures) ∙ at-match .match .keys3 in
     asks-side 4 (s .pre .0) (s .pre .1 .sound) (s .pre .1 .inside) (c .second .ensures) (clear (at-field-side .field-side .last .1 .1 .1 .0) (sfits-of (at-if12 .if12 .given))
     (at-if1 .if1 .left))
     ((field-rules (s .pre .1) .operF z) .1)
@@ -860,15 +846,14 @@ field-at-returns-2 t c =
     let at-match = at-first .before .before in
     let at-form-of = at-match .before in
     let s = at-form-of .before .before in
-    let z = is-operator (at-form-of .form-of .ensures) (s .pre .1 .sort) (field-rules (s .pre .1) .known) (at-match .match .rest .0 .0 .1) (at-match .match .rest .0 .1)
-    (at-match .match .rest .1) in
+    let z = sym (at-form-of .form-of .ensures) ∙ at-match .match .keys3 in
     gives
     (ev-operf (s .pre .1) (s .args .here .now) (s .args .env .now) (stateOf (s .args .st .now)) z _ _ _ refl (at-first .first .ensures) (at-second .second .ensures)
     ∙ goes _ (at-field-side .field-side .ensures .leaves) (sfits-of (at-if12 .if12 .given)) (at-if1 .if1 .left))
     (fails _ _ (at-field-side2 .field-side2 .ensures .leaves) (at-if2 .if2 .taken))
 
-field-at-item-of-requires-2 : (t : ℕ) → field-at-lts.Need-item-of-requires-2 (field-at-calls t) (field-at-at t) field-at.Post
-field-at-item-of-requires-2 t c κs = search needs
+field-at-item-of-requires : (t : ℕ) → field-at-lts.Need-item-of-requires (field-at-calls t) (field-at-at t) field-at.Post
+field-at-item-of-requires t c κs = search needs
 
 field-at-field-op-requires : (t : ℕ) → field-at-lts.Need-field-op-requires (field-at-calls t) (field-at-at t) field-at.Post
 field-at-field-op-requires t c κs =
@@ -878,26 +863,27 @@ field-at-field-op-requires t c κs =
     let s = at-field-side2 .before .before .before .before .before .before .before .before .before .before .before in
     (omega (arith, s .pre .1 .inside), clear (at-field-side2 .field-side2 .last .1 .1 .1 .0) (sfits-of (at-if22 .if22 .given)) (at-if2 .if2 .left))
 
+field-at-item-of-requires-2 : (t : ℕ) → field-at-lts.Need-item-of-requires-2 (field-at-calls t) (field-at-at t) field-at.Post
+field-at-item-of-requires-2 t c κs = search needs
+
+field-at-cast-measured-at : (t : ℕ) → field-at-lts.Need-cast-measured-at (field-at-calls t) (field-at-at t) field-at.Post
+field-at-cast-measured-at t c = search needs
+
+field-at-measured-at-requires : (t : ℕ) → field-at-lts.Need-measured-at-requires (field-at-calls t) (field-at-at t) field-at.Post
+field-at-measured-at-requires t c κs =
+    let s = c .before .before .before .before .before in
+    (omega (arith, c .item-of2 .ensures), s .pre .1 .clear)
+
 field-at-returns-3 : (t : ℕ) → field-at-lts.Need-returns-3 (field-at-calls t) (field-at-at t) field-at.Post
 field-at-returns-3 t c = c .nbr-at .ensures
 
 field-at-returns-4 : (t : ℕ) → field-at-lts.Need-returns-4 (field-at-calls t) (field-at-at t) field-at.Post
-field-at-returns-4 t c =
-    let at-item-of = c .before in
-    let at-match = at-item-of .before .before in
-    let at-form-of = at-match .before in
-    let s = at-form-of .before .before in
-    gives (ev-range (s .pre .1) (s .args .here .now) (s .args .env .now) (stateOf (s .args .st .now)) (sym (at-form-of .form-of .ensures) ∙ at-match .match .keys2) _
-    (at-item-of .item-of .ensures))
-    (c .range-at .ensures)
+field-at-returns-4 t c = c .field-if-at .ensures
 
 field-at-returns-5 : (t : ℕ) → field-at-lts.Need-returns-5 (field-at-calls t) (field-at-at t) field-at.Post
-field-at-returns-5 t c = c .field-if-at .ensures
-
-field-at-returns-6 : (t : ℕ) → field-at-lts.Need-returns-6 (field-at-calls t) (field-at-at t) field-at.Post
-field-at-returns-6 t c =
-    let at-item-of2 = c .before .before .before .before .before in
-    let at-if2 = at-item-of2 .before .before in
+field-at-returns-5 t c =
+    let at-item-of = c .before .before .before .before .before in
+    let at-if2 = at-item-of .before .before in
     let at-if22 = at-if2 .before in
     let at-field-side2 = at-if22 .before in
     let at-second = at-field-side2 .before in
@@ -908,10 +894,9 @@ field-at-returns-6 t c =
     let at-match = at-first .before .before in
     let at-form-of = at-match .before in
     let s = at-form-of .before .before in
-    let z = is-operator (at-form-of .form-of .ensures) (s .pre .1 .sort) (field-rules (s .pre .1) .known) (at-match .match .rest .0 .0 .1) (at-match .match .rest .0 .1)
-    (at-match .match .rest .1) in
+    let z = sym (at-form-of .form-of .ensures) ∙ at-match .match .keys3 in
     gives
-    (ev-operf (s .pre .1) (s .args .here .now) (s .args .env .now) (stateOf (s .args .st .now)) z _ _ _ (at-item-of2 .item-of2 .ensures) (at-first .first .ensures)
+    (ev-operf (s .pre .1) (s .args .here .now) (s .args .env .now) (stateOf (s .args .st .now)) z _ _ _ (at-item-of .item-of .ensures) (at-first .first .ensures)
     (at-second .second .ensures)
     ∙ goes _ (at-field-side .field-side .ensures .leaves) (sfits-of (at-if12 .if12 .given)) (at-if1 .if1 .left)
     ∙ goes _ (at-field-side2 .field-side2 .ensures .leaves) (sfits-of (at-if22 .if22 .given)) (at-if2 .if2 .left)
@@ -920,6 +905,16 @@ field-at-returns-6 t c =
     (either (s .args .t .now) (at-first .first .ensures) (at-second .second .ensures) (field-rules (s .pre .1) .side z) (at-field-side .field-side .ensures .sort)
     (at-field-side2 .field-side2 .ensures .sort)))
     (c .field-op .ensures)
+
+field-at-returns-6 : (t : ℕ) → field-at-lts.Need-returns-6 (field-at-calls t) (field-at-at t) field-at.Post
+field-at-returns-6 t c =
+    let at-item-of2 = c .before in
+    let at-match = at-item-of2 .before .before in
+    let at-form-of = at-match .before in
+    let s = at-form-of .before .before in
+    gives (ev-measure (s .pre .1) (s .args .here .now) (s .args .env .now) (stateOf (s .args .st .now)) _ _ (at-form-of .form-of .ensures) (at-item-of2 .item-of2 .ensures)
+    (at-match .match .rest .0 .0 .1) (at-match .match .rest .0 .1) (at-match .match .rest .1))
+    (c .measured-at .ensures)
 
 field-if-at-mul-w : (t : ℕ) → field-if-at-lts.Need-mul-w (field-if-at-calls t) (field-if-at-at t) field-if-at.Post
 field-if-at-mul-w t c = search needs
@@ -2355,9 +2350,6 @@ pub +argument+call+call-at+field-at+field-if-at+field-side+fold-at+fold-by+if-at
     (field-at-element-copy-out-w t)
     (field-at-form-of-requires t)
     (field-at-nbr-at-requires t)
-    (field-at-item-of-requires t)
-    (field-at-cast-range-at t)
-    (field-at-range-at-requires t)
     (field-at-field-if-at-requires t)
     (field-at-first-requires t)
     (field-at-field-side-requires t)
@@ -2369,8 +2361,11 @@ pub +argument+call+call-at+field-at+field-if-at+field-side+fold-at+fold-by+if-at
     (field-at-element-copy-out-if2 t)
     (field-at-no-field-requires-2 t)
     (field-at-returns-2 t)
-    (field-at-item-of-requires-2 t)
+    (field-at-item-of-requires t)
     (field-at-field-op-requires t)
+    (field-at-item-of-requires-2 t)
+    (field-at-cast-measured-at t)
+    (field-at-measured-at-requires t)
     (field-at-returns-3 t)
     (field-at-returns-4 t)
     (field-at-returns-5 t)

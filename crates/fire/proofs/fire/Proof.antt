@@ -28,6 +28,10 @@ in-range c = sym (c .before .fire-refused .ensures) ∙ c .if1 .left
 near : (c : tie.Else1) → (1 ≤ c .before .before .args .a) × (c .before .before .args .a ≤ 16)
 near c = device _ (not-false _ (in-range c))
 
+-- its cells are all there
+whole-block : (c : tie.Else1) → base (c .before .before .args .a) + blockSize ≤ length (now (c .before .before .args .net))
+whole-block c = let p = near c in omega (arith, c .before .before .pre .whole)
+
 -- where the device is one of the sixteen
 abbrev gone-on : (c : tie.After-f) → tie.Else1
 gone-on c = c .before .before .before .before .before .before .before .before .before
@@ -77,7 +81,7 @@ returns-2 c =
     let r = c .before in
     let v = r .before .evaluate in
     let e = own r .own-cells .ensures in
-    fails _ _ _ _ e (v .result) _ (v .last .1 .1 .1 .0) _ (in-range (gone-on r)) (began r .begin .ensures .state) (v .ensures) (λ q. c .if2 .taken (ap (ofZ w32) q))
+    fails _ _ _ (whole-block (gone-on r)) _ e (v .result) _ (v .last .1 .1 .1 .0) _ (in-range (gone-on r)) (began r .begin .ensures .state) (v .ensures) (λ q. c .if2 .taken (ap (ofZ w32) q))
     (λ k e. ap (λ (y : ℤ). (pos 17, y)) (node-read (faultOf (v .last .1 .1 .1 .0)) k (sfits-of (r .f .given)) e))
 
 put-round-requires : tie.Need-put-round-requires
@@ -99,11 +103,9 @@ returns-3 c =
     let v = r .before .evaluate in
     let e = own r .own-cells .ensures in
     let st = v .last .1 .1 .1 .0 in
-    let p = near (gone-on r) in
-    let h : base (s .args .a) + blockSize ≤ length (now (s .args .net)) = omega (arith, s .pre .whole) in
     let k : length st ≡ stateSize = search needs in
-    fires _ _ _ _ e (v .result) _ st _ (in-range (gone-on r)) (began r .begin .ensures .state) (v .ensures) _
-    (clear st (sfits-of (r .f .given)) (g .if2 .left)) h k (c .before .put-round .ensures) (ap (λ (y : ℤ). (pos 0, y)) (toZ-ofZ (sfits-of (v .ok))))
+    fires _ _ _ (whole-block (gone-on r)) _ e (v .result) _ st _ (in-range (gone-on r)) (began r .begin .ensures .state) (v .ensures) _
+    (clear st (sfits-of (r .f .given)) (g .if2 .left)) k (c .before .put-round .ensures) (ap (λ (y : ℤ). (pos 0, y)) (toZ-ofZ (sfits-of (v .ok))))
 
 pub fire-spec : {M : Type 1} → statement M
 fire-spec =

@@ -51,14 +51,17 @@ choice-requires-2 c κs = search needs
 nbr-requires : tie.Need-nbr-requires
 nbr-requires c κs = search needs
 
-range-requires : tie.Need-range-requires
-range-requires c κs = search needs
+measure-requires : tie.Need-measure-requires
+measure-requires c κs = search needs
 
 fold-by-requires : tie.Need-fold-by-requires
 fold-by-requires c κs = search needs
 
 call-requires : tie.Need-call-requires
 call-requires c κs = search needs
+
+measure-requires-2 : tie.Need-measure-requires-2
+measure-requires-2 c κs = search needs
 
 no-node-requires-3 : tie.Need-no-node-requires-3
 no-node-requires-3 c κs = search needs
@@ -94,7 +97,7 @@ returns-12 : tie.Need-returns-12
 returns-12 c = c .nbr .ensures _ _ _
 
 returns-13 : tie.Need-returns-13
-returns-13 c = c .range .ensures _ _ _ _ _ (c .before .before .before .before .if2 .left)
+returns-13 c = c .measure .ensures _ _ _ _ _ (c .before .before .before .before .if2 .left)
 
 returns-14 : tie.Need-returns-14
 returns-14 c = c .fold-by .ensures _ _ _
@@ -103,15 +106,18 @@ returns-15 : tie.Need-returns-15
 returns-15 c = c .call .ensures _ _
 
 returns-16 : tie.Need-returns-16
-returns-16 c =
+returns-16 c = c .measure2 .ensures _ _ _ _ _ (c .before .before .before .before .if2 .left)
+
+returns-17 : tie.Need-returns-17
+returns-17 c =
     let b3 = c .before .before .before in
     let b4 = b3 .before in
-    unknown _ (b4 .if1 .left) (b3 .if2 .left) (past (past (past (past
-    (past (past (past (past (past (past (past (past (past (omega arith) (c .before .match .rest .0 .0 .0 .0 .0 .0 .0 .0 .0 .0 .0 .0 .1))
-    (c .before .match .rest .0 .0 .0 .0 .0 .0 .0 .0 .0 .0 .0 .1)) (c .before .match .rest .0 .0 .0 .0 .0 .0 .0 .0 .0 .0 .1))
-    (c .before .match .rest .0 .0 .0 .0 .0 .0 .0 .0 .0 .1)) (c .before .match .rest .0 .0 .0 .0 .0 .0 .0 .1)) (c .before .match .rest .0 .0 .0 .0 .0 .0 .1))
-    (c .before .match .rest .0 .0 .0 .0 .0 .1)) (c .before .match .rest .0 .0 .0 .0 .1)) (c .before .match .rest .0 .0 .0 .1)) (c .before .match .rest .0 .0 .1))
-    (c .before .match .rest .0 .0 .0 .0 .0 .0 .0 .0 .1)) (c .before .match .rest .0 .1)) (c .before .match .rest .1)) (c .no-node3 .ensures)
+    let m = c .before .match .rest .0 in
+    unknown _ (b4 .if1 .left) (b3 .if2 .left) (past (past (past (past (past
+    (past (past (past (past (past (past (past (past (past (omega arith) (m .0 .0 .0 .0 .0 .0 .0 .0 .0 .0 .0 .0 .1)) (m .0 .0 .0 .0 .0 .0 .0 .0 .0 .0 .0 .1))
+    (m .0 .0 .0 .0 .0 .0 .0 .0 .0 .0 .1)) (m .0 .0 .0 .0 .0 .0 .0 .0 .0 .1)) (m .0 .0 .0 .0 .0 .0 .0 .1)) (m .0 .0 .0 .0 .0 .0 .1))
+    (m .0 .0 .0 .0 .0 .1)) (m .0 .0 .0 .0 .1)) (m .0 .0 .0 .1)) (m .0 .0 .1)) (m .0 .0 .0 .0 .0 .0 .0 .0 .1)) (m .0 .1)) (m .1)) (c .before .match .rest .1))
+    (c .no-node3 .ensures)
 
 pub read-node-spec : {M : Type 1} → statement M
 read-node-spec =
@@ -132,9 +138,10 @@ read-node-spec =
     choice-requires
     choice-requires-2
     nbr-requires
-    range-requires
+    measure-requires
     fold-by-requires
     call-requires
+    measure-requires-2
     no-node-requires-3
     returns-3
     returns-4
@@ -149,4 +156,5 @@ read-node-spec =
     returns-13
     returns-14
     returns-15
-    returns-16)
+    returns-16
+    returns-17)

@@ -78,10 +78,36 @@ impl Table {
     pub fn range(&mut self, slot: u8) -> u8 {
         self.node(&[9, slot])
     }
+
+    /// Another one: nbr-range with another measure.
+    pub fn lag(&mut self, slot: u8) -> u8 {
+        self.node(&[13, slot])
+    }
+
+    /// (/ 1 (- 1 (sense 0))): 1, but where sensor 0 is lit it faults.
+    pub fn faults_when_lit(&mut self) -> u8 {
+        let one = self.constant(1);
+        let whole = self.constant(1);
+        let sensor = self.constant(0);
+        let sense = self.node(&[4, sensor]);
+        let rest = self.node(&[3, SUB, whole, sense]);
+        self.node(&[3, DIV, one, rest])
+    }
+
+    /// (fold + 0 field)
+    pub fn total(&mut self, field: u8) -> u8 {
+        let zero = self.constant(0);
+        self.node(&[10, ADD, zero, field])
+    }
 }
 
 /// The distance-to of 000 with sensor 1: slot 1 sends d, slot 2 the range.
 pub fn distance_to() -> Vec<u8> {
+    distance_by(9)
+}
+
+/// The same by this kind of measure: nbr-range, or nbr-lag in its place.
+pub fn distance_by(kind: u8) -> Vec<u8> {
     let mut t = Table::new();
     let a = t.parameter(0);
     let b = t.parameter(1);
@@ -95,8 +121,8 @@ pub fn distance_to() -> Vec<u8> {
     let zero = t.constant(0);
     let d = t.variable(0);
     let nbr = t.node(&[8, 1, d]);
-    let range = t.range(2);
-    let sum = t.node(&[3, ADD, nbr, range]);
+    let measure = t.node(&[kind, 2]);
+    let sum = t.node(&[3, ADD, nbr, measure]);
     let inf = t.constant(INF);
     let fold = t.node(&[11, min, inf, sum]);
     let mux = t.node(&[7, source, zero, fold]);
@@ -170,6 +196,13 @@ pub fn run(program: &[u8], network: &mut [i32], events: &[Vec<u8>]) -> Vec<(i32,
     assert_eq!(second::run(program, network, &events.concat(), &mut answers), (0, 0));
     assert_eq!(answers.split_off(2 * events.len()), [99, 99], "space beyond the pairs is untouched");
     answers.chunks(2).map(|pair| (pair[0], pair[1])).collect()
+}
+
+/// Does events one after the other, each answered 0; of fires the values.
+pub fn values(program: &[u8], network: &mut [i32], events: &[Vec<u8>]) -> Vec<i32> {
+    let answers = run(program, network, events);
+    assert!(answers.iter().all(|(code, _)| *code == 0), "{answers:?}");
+    answers.iter().zip(events).filter(|(_, event)| event[0] == 0x10).map(|((_, value), _)| *value).collect()
 }
 
 /// The value of a program with no input, at device 1 of a fresh network.
