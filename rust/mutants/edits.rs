@@ -46,6 +46,13 @@ macro_rules! of_who_lag_takes {
     };
 }
 
+/// The numbers of the field that is folded, after this was done with `all` of it.
+macro_rules! folded {
+    ($does:literal) => {
+        concat!("let mut all = self.field(field, parameters)?; ", $does, " all.into_values()")
+    };
+}
+
 /// The bugs: name, file of the second engine, its text with the part « » that is replaced, what replaces it.
 /// A part is an expression, or statements (with a `;`) that leave no name behind.
 const EDITS: &[(&str, &str, &str, &str)] = &[
@@ -157,9 +164,64 @@ const EDITS: &[(&str, &str, &str, &str)] = &[
         "for next in «self.field(field, parameters)?.into_values()» {\n                    so_far = self",
         "self.field(field, parameters)?.into_values().rev().zip(1..).map(|(n, at)| (at, n)).collect::<Field>().into_values()",
     ),
+    (
+        "fold by operator leaves out its last device",
+        "round.rs",
+        "for next in «self.field(field, parameters)?.into_values()» {\n                    so_far = at_node",
+        folded!("all.pop_last();"),
+    ),
+    (
+        "fold by operator takes its last device twice",
+        "round.rs",
+        "for next in «self.field(field, parameters)?.into_values()» {\n                    so_far = at_node",
+        folded!("all.extend(all.last_key_value().map(|(_, last)| (17, *last)));"),
+    ),
+    (
+        "fold by operator stays at its lowest device",
+        "round.rs",
+        "for next in «self.field(field, parameters)?.into_values()» {\n                    so_far = at_node",
+        folded!("let lowest = all.values().next().copied(); all.values_mut().for_each(|next| *next = lowest.unwrap());"),
+    ),
+    (
+        "fold by operator takes sixteen turns",
+        "round.rs",
+        "for next in «self.field(field, parameters)?.into_values()» {\n                    so_far = at_node",
+        folded!("(1..=16).for_each(|b| *all.entry(b).or_default() += 0);"),
+    ),
+    (
+        "fold by definition leaves out its last device",
+        "round.rs",
+        "for next in «self.field(field, parameters)?.into_values()» {\n                    so_far = self",
+        folded!("all.pop_last();"),
+    ),
+    (
+        "fold by definition takes its last device twice",
+        "round.rs",
+        "for next in «self.field(field, parameters)?.into_values()» {\n                    so_far = self",
+        folded!("all.extend(all.last_key_value().map(|(_, last)| (17, *last)));"),
+    ),
+    (
+        "fold by definition stays at its lowest device",
+        "round.rs",
+        "for next in «self.field(field, parameters)?.into_values()» {\n                    so_far = self",
+        folded!("let lowest = all.values().next().copied(); all.values_mut().for_each(|next| *next = lowest.unwrap());"),
+    ),
+    (
+        "fold by definition takes sixteen turns",
+        "round.rs",
+        "for next in «self.field(field, parameters)?.into_values()» {\n                    so_far = self",
+        folded!("(1..=16).for_each(|b| *all.entry(b).or_default() += 0);"),
+    ),
     ("fold by operator takes f(next, so far)", "round.rs", "«operator.apply(so_far, next)»", "operator.apply(next, so_far)"),
     ("fold by definition takes f(next, so far)", "round.rs", "so_far = «self.number(&definition.body, &[so_far, next])?»;", "self.number(&definition.body, &[next, so_far])?"),
     ("operators on two fields keep the left domain", "round.rs", "«*r.get(device)?»", "*r.get(device).unwrap_or(&0)"),
+    ("operators on fields leave out their last device", "round.rs", "«Ok(Value::Field(field))»", "field.pop_last(); Ok(Value::Field(field))"),
+    (
+        "the last divisor of a field is not looked at",
+        "round.rs",
+        "field.insert(*device, «operator.apply(l, r)?»);",
+        "if domain.keys().last() == Some(device) { operator.apply(l, r).unwrap_or(0) } else { operator.apply(l, r)? }",
+    ),
     ("field with number swaps its sides", "round.rs", "«pointwise(l, &|device| Some((l[device], *r)))»", "pointwise(l, &|device| Some((*r, l[device])))"),
     ("number with field swaps its sides", "round.rs", "«Some((*l, r[device]))»", "Some((r[device], *l))"),
     (

@@ -39,7 +39,7 @@ module _ (st : List ℤ) where
       not k h q = omega arith
 
 -- ---- after an operand
-one-more : (n : ℕ) → pos (n + 1) ≡ pos 0 → ⊥
+pub one-more : (n : ℕ) → pos (n + 1) ≡ pos 0 → ⊥
 one-more n e = let q : n + 1 ≡ 0 = cc in omega arith
 
 pub came : {o : Outcome} {v : Value} {st : List ℤ} → LeftBy o v st → faultOf st ≡ pos 0 → o ≡ done v (stateOf st)

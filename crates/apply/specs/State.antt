@@ -2,15 +2,18 @@
 use mathlib.Core.Path.{_≡_}
 use mathlib.Core.List.{List}
 use Prim.Native.Nat.{ℕ, _+_, _<_, _≤_}
-use lib.ListN.{getD, take, drop}
+use lib.ListN.{length, getD, take, drop}
 use lib.IntN.{ℤ, pos}
 use Rattle.bits.specs.Bits.{hasBit}
 use Rattle.program.specs.Table.{among}
-use Rattle.round.specs.Round.{State, Value, number, field, Outcome, done, fault, fieldOf, erased}
+use Rattle.field.specs.Field.{Field}
+use Rattle.round.specs.Round.{State, Value, number, field, Outcome, done, fault, fieldOf, folded, erased}
 use Rattle.words.specs.Form.{fieldForms}
 use Rattle.words.specs.Sound.{lesser}
 use Rattle.domain.specs.declared.Held.{Held}
 use Rattle.domain.specs.Held.{held}
+use Rattle.domain.specs.Members.{places}
+use Rattle.apply.specs.declared.Walk.{Walk}
 
 -- how many cells there are; from which on the slots sent stand, behind the variables; where the fault stands
 abbrev pub stateSize : ℕ
@@ -50,6 +53,12 @@ pub record GivesSide (o : Outcome) (k : ℕ) (f : Held) (st : List ℤ) : Type 0
   pub leaves : LeftBy o value st
   pub asField : fieldOf value ≡ held f
   pub sort : fieldForms ≤ k → value ≡ field (held f)
+
+-- the walk of a fold of f by F from x. L3: "a fold without a fault takes exactly one turn for each device there, a count that the walk also returns":
+-- as many as f has numbers, which are as many as its domain has members (domain/Laws: places-members)
+pub record Walks (F : ℤ → ℤ → State → Outcome) (f : Field) (x : ℤ) (s : State) (r : Walk) (st : List ℤ) : Type 0 where
+  pub leaves : Gives (folded F f x s) (r .value) st
+  pub turns : faultOf st ≡ pos 0 → r .turns ≡ length (places f)
 
 -- a step of a fold by the lesser of two numbers
 abbrev pub lessens : ℤ → ℤ → State → Outcome

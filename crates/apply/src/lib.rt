@@ -7,12 +7,20 @@ use layout::STATE;
 ghost use mathlib.Core.Path.{_≡_};
 ghost use Prim.Native.Nat.{_+_, _<_};
 ghost use lib.IntN.{pos};
+ghost use lib.ListN.{length};
 ghost use Rattle.number.specs.Number.{div, operatorOf};
 ghost use Rattle.domain.specs.Held.{fieldOf};
+ghost use Rattle.domain.specs.Members.{places};
 ghost use Rattle.round.specs.Round.{State, number, done, onNumbers, onFields, folded, isTrue, sensed};
 ghost use Rattle.words.specs.Word.{nodeNumbers};
 ghost use Rattle.words.specs.Sound.{lesser};
-ghost use Rattle.apply.specs.State.{stateOf, faultOf, Gives, GivesField, Erases, lessens};
+ghost use Rattle.apply.specs.State.{stateOf, faultOf, Gives, GivesField, Walks, Erases, lessens};
+
+// What a walk over a domain comes to, and how many turns its loop took.
+pub struct Walk {
+    pub value: i32,
+    pub turns: u32,
+}
 
 // Node n divided by 0. The cells go by value: of an array by value a proof knows that it has cell FAULT.
 fn faulted(st: [i32; STATE], n: u16) -> [i32; STATE]
@@ -61,13 +69,13 @@ pub fn field_op<'a>(
     st: &mut [i32; STATE],
     n: u16,
     o: u8,
-    left: u16,
+    left: domain::Domain,
     xs: &'a [i32; 16],
-    right: u16,
+    right: domain::Domain,
     ys: &'a [i32; 16],
 ) -> domain::Held
     requires { ⌜ (n < nodeNumbers) × (faultOf (now st) ≡ pos 0) ⌝ }
-    ensures { λ q. ⌜ GivesField (onFields n (operatorOf o) (fieldOf left (now (xs .entry))) (fieldOf right (now (ys .entry))) (stateOf (now (st .entry)))) q (now (st .exit)) ⌝ }
+    ensures { λ q. ⌜ GivesField (onFields n (operatorOf o) (fieldOf (left .bits) (now (xs .entry))) (fieldOf (right .bits) (now (ys .entry))) (stateOf (now (st .entry)))) q (now (st .exit)) ⌝ }
 {
     if domain::faults_in(o, left, xs, right, ys) {
         fault(st, n);
@@ -76,25 +84,39 @@ pub fn field_op<'a>(
     domain::shared(o, left, xs, right, ys)
 }
 
-// And folded over a field, lowest device first.
-pub fn fold_op(st: &mut [i32; STATE], n: u16, o: u8, from: i32, dom: u16, cells: &[i32; 16]) -> i32
+// And folded over a field, lowest device first: a turn for each device.
+pub fn fold_op(
+    st: &mut [i32; STATE],
+    n: u16,
+    o: u8,
+    from: i32,
+    dom: domain::Domain,
+    cells: &[i32; 16],
+) -> Walk
     requires { ⌜ (n < nodeNumbers) × (faultOf (now st) ≡ pos 0) ⌝ }
-    ensures { λ r. ⌜ Gives (folded (λ x y s. onNumbers n (operatorOf o) x y s) (fieldOf dom (now (cells .entry))) from (stateOf (now (st .entry)))) r (now (st .exit)) ⌝ }
+    ensures { λ r. ⌜ Walks (λ x y s. onNumbers n (operatorOf o) x y s) (fieldOf (dom .bits) (now (cells .entry))) from (stateOf (now (st .entry))) r (now (st .exit)) ⌝ }
 {
     let mut acc = from;
-    let mut rest = dom;
-    let mut left = domain::size(rest);
-    while left > 0 {
-        let k = domain::lowest(rest);
-        rest = domain::without(rest);
-        left -= 1;
+    let mut left = dom;
+    let mut turns: u32 = 0;
+    while left.bits != 0 {
+        let k = left.lowest();
+        left = left.rest();
+        turns += 1;
         let v = cells[k];
         if arith::zero_divisor(o, v) {
-            return fault(st, n);
+            let z = fault(st, n);
+            return Walk {
+                value: z,
+                turns: turns,
+            };
         }
         acc = arith::operate_any(o, acc, v);
     }
-    acc
+    Walk {
+        value: acc,
+        turns: turns,
+    }
 }
 
 fn lesser_of(x: i32, y: i32) -> i32
@@ -107,17 +129,23 @@ fn lesser_of(x: i32, y: i32) -> i32
 }
 
 // The least of a number and a field's: what folding comes to by a definition that gives the lesser of two.
-pub fn fold_least(from: i32, dom: u16, cells: &[i32; 16]) -> i32
-    ensures { λ r. ⌜ ((s : State) → folded lessens (fieldOf dom (now (cells .entry))) from s ≡ done (number r) s) ⌝ }
+pub fn fold_least(from: i32, dom: domain::Domain, cells: &[i32; 16]) -> Walk
+    ensures { λ r. ⌜ ((s : State) → folded lessens (fieldOf (dom .bits) (now (cells .entry))) from s ≡ done (number (r .value)) s)
+        × (r .turns ≡ length (places (fieldOf (dom .bits) (now (cells .entry))))) ⌝ }
 {
-    let mut acc = from;
-    let mut rest = dom;
-    while rest != 0 {
-        let j = domain::lowest(rest);
-        rest = domain::without(rest);
-        acc = lesser_of(acc, cells[j]);
+    let mut least = from;
+    let mut more = dom;
+    let mut count: u32 = 0;
+    while more.bits != 0 {
+        let j = more.lowest();
+        more = more.rest();
+        count += 1;
+        least = lesser_of(least, cells[j]);
     }
-    acc
+    Walk {
+        value: least,
+        turns: count,
+    }
 }
 
 // Whether a condition takes the first branch.
@@ -143,14 +171,14 @@ pub fn lit_of(sensors: i32, s: i32) -> i32
     (((sensors as u32) >> (s as u32)) % 2) as i32
 }
 
-// The variables of a mask made absent.
-pub fn erase(st: &mut [i32; STATE], variables: u16)
-    ensures { λ _. ⌜ Erases variables (now (st .entry)) (now (st .exit)) ⌝ }
+// The variables of a mask made absent: its bits are walked as a domain's.
+pub fn erase(st: &mut [i32; STATE], mask: u16)
+    ensures { λ _. ⌜ Erases mask (now (st .entry)) (now (st .exit)) ⌝ }
 {
-    let mut rest = variables;
-    while rest != 0 {
-        let v = domain::lowest(rest);
-        rest = domain::without(rest);
+    let mut variables = domain::Domain { bits: mask };
+    while variables.bits != 0 {
+        let v = variables.lowest();
+        variables = variables.rest();
         st[v] = MARK;
     }
 }

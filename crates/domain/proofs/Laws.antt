@@ -1,4 +1,4 @@
--- What users of a domain cite: its members, their count, a field's numbers by members, a domain built bit by bit. Assumes nothing.
+-- What users of a domain cite: its members, their count, a field's numbers by members, a domain built bit by bit, a walk and its turns. Assumes nothing.
 use mathlib.Core.Path.{_≡_, refl, sym, ap, ap₂, _∙_}
 use mathlib.Core.Bool.{Bool, true, false, cond, _||_, _&&_, and-true, and-false, or-false, false≢true}
 use mathlib.Core.List.{List, [], _∷_, map}
@@ -12,7 +12,7 @@ use lib.Bits.{bitAnd, and-shr, and-mod, block-odd}
 use lib.Count.{ones}
 use lib.Dec.{eqb}
 use lib.IntN.{ℤ, pos}
-use lib.ListN.{length, getD}
+use lib.ListN.{length, getD, length-map}
 use lib.Pow.{pow-add, pow-pos}
 use borrow.Author.Tests.{eq-eqb, ne-eqb, eqb-true}
 use Rattle.decide.proofs.Picks.{both, one-of}
@@ -185,7 +185,7 @@ shared-domain k d e =
     ∙ ap (λ (n : ℕ). eqb n 1) (and-mod (d / 2 ^ k) (e / 2 ^ k) 1)
     ∙ and-bits (d / 2 ^ k % 2) (e / 2 ^ k % 2) (parity (d / 2 ^ k % 2) (omega arith)) (parity (e / 2 ^ k % 2) (omega arith))
 
--- ---- a walk by `lowest` and `without`, while `left`, which counts the members of the rest, is above 0
+-- ---- a walk by `lowest` and `rest` while `size`, how many members are left, is above 0
 
 pub some-left : (d n : ℕ) → n ≡ length (members d) → 0 < n → 0 < d
 some-left zero n e h = let z : n ≡ 0 = e ∙ ap length members-none in omega arith
@@ -200,3 +200,35 @@ none-left d n e z = empty (members d) (sym e ∙ z)
 
 pub left-next : (d r j : ℕ) → members d ≡ j ∷ members r → (n : ℕ) → n ≡ length (members d) → n - 1 ≡ length (members r)
 left-next d r j e n p = let s : n ≡ suc (length (members r)) = p ∙ ap length e in omega arith
+
+-- ---- the turns of a walk while a device is left: those taken and those to come are as many as there are members
+
+before-few : (t : Bool) (k n : ℕ) (l : List ℕ) → length l ≤ n → length (before t k l) ≤ suc n
+before-few true k n l h = omega arith
+before-few false k n l h = omega arith
+
+those-few : (p : ℕ → Bool) (n a : ℕ) → length (those a n p) ≤ n
+unfolding those
+those-few p zero a = omega arith
+those-few p (suc n) a = before-few (p a) a n (those (suc a) n p) (those-few p n (suc a))
+
+abbrev pub Turned : ℕ → ℕ → ℕ → Type 0
+Turned dom left turns = turns + length (members left) ≡ length (members dom)
+
+pub turned-none : (dom : ℕ) → Turned dom dom 0
+turned-none dom = zero-add (length (members dom))
+
+module _ (dom d turns : ℕ) (h : Turned dom d turns) where
+  pub turned-few : turns ≤ 16
+  unfolding members
+  turned-few = omega (arith, h, those-few (λ (k : ℕ). hasBit k dom) 16 0)
+
+  pub turned-more : (r j : ℕ) → members d ≡ j ∷ members r → Turned dom r (turns + 1)
+  turned-more r j e = let s : length (members d) ≡ suc (length (members r)) = ap length e in omega arith
+
+  -- as many as the field of these devices has numbers
+  pub turned-all : members d ≡ [] → (cells : List ℤ) → turns ≡ length (places (fieldOf dom cells))
+  turned-all e cells =
+      let z : length (members d) ≡ 0 = ap length e in
+      let t : turns ≡ length (members dom) = omega arith in
+      t ∙ sym (ap length (places-members dom cells) ∙ length-map (members dom) (λ (k : ℕ). getD cells k (pos 0)))

@@ -2,3 +2,4 @@
 pub mod Walk
 pub mod Laws
 pub mod Fields
+pub mod Shown

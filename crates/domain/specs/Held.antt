@@ -18,4 +18,4 @@ unfoldable pub fieldOf : ℕ → List ℤ → Field
 fieldOf dom cells = from 0 devices (cellOf dom cells)
 
 abbrev pub held : Held → Field
-held f = fieldOf (f .dom) (f .cells)
+held f = fieldOf (f .dom .bits) (f .cells)

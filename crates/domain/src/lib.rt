@@ -6,42 +6,52 @@ ghost use mathlib.Core.Bool.{true, false};
 ghost use mathlib.Core.List.{_∷_};
 ghost use mathlib.Core.Option.{none};
 ghost use Prim.Native.Nat.{ℕ, _<_};
-ghost use lib.ListN.{getD, replicate};
+ghost use lib.ListN.{length, getD, replicate};
 ghost use lib.IntN.{pos};
-ghost use lib.Count.{trailingZeros, ones};
+ghost use lib.Count.{trailingZeros};
 ghost use Rattle.bits.specs.Bits.{hasBit};
 ghost use Rattle.number.specs.Number.{operatorOf, result, plus, over};
 ghost use Rattle.field.specs.Field.{everywhere, pointwise, faultsIn};
 ghost use Rattle.domain.specs.Held.{fieldOf, held};
 ghost use Rattle.domain.specs.Members.{members, anyZero};
 
-// A field: bit k of dom says whether device k + 1 is in its domain, cells[k] is that device's number.
+// A domain: bit k says whether device k + 1 is in it. A walk takes the lowest device and goes on with the rest while a device is left.
+pub struct Domain {
+    pub bits: u16,
+}
+
+impl Domain {
+    // How many devices there are.
+    pub fn size(self) -> u32
+        ensures { λ r. ⌜ r ≡ length (members (self .bits)) ⌝ }
+    {
+        u16::count_ones(self.bits)
+    }
+
+    // The lowest device, counted from 0.
+    pub fn lowest(self) -> usize
+        requires { ⌜ 0 < self .bits ⌝ }
+        ensures { λ r. ⌜ (r < 16) × (r ≡ trailingZeros 16 (self .bits)) ⌝ }
+    {
+        u16::trailing_zeros(self.bits) as usize
+    }
+
+    // The rest without the lowest device.
+    pub fn rest(self) -> Domain
+        requires { ⌜ 0 < self .bits ⌝ }
+        ensures { λ r. ⌜ (r .bits < self .bits) × (members (self .bits) ≡ trailingZeros 16 (self .bits) ∷ members (r .bits)) ⌝ }
+    {
+        let one: u16 = 1;
+        Domain {
+            bits: self.bits - (one << u16::trailing_zeros(self.bits)),
+        }
+    }
+}
+
+// A field: cells[k] is the number of device k + 1 where that is in its domain.
 pub struct Held {
     pub cells: [i32; 16],
-    pub dom: u16,
-}
-
-// How many devices a domain has.
-pub fn size(dom: u16) -> u32
-    ensures { λ r. ⌜ r ≡ ones dom ⌝ }
-{
-    u16::count_ones(dom)
-}
-
-// A domain's lowest device, counted from 0, and the domain without it.
-pub fn lowest(dom: u16) -> usize
-    requires { ⌜ 0 < dom ⌝ }
-    ensures { λ r. ⌜ (r < 16) × (r ≡ trailingZeros 16 dom) ⌝ }
-{
-    u16::trailing_zeros(dom) as usize
-}
-
-pub fn without(dom: u16) -> u16
-    requires { ⌜ 0 < dom ⌝ }
-    ensures { λ r. ⌜ (r < dom) × (members dom ≡ trailingZeros 16 dom ∷ members r) ⌝ }
-{
-    let one: u16 = 1;
-    dom - (one << u16::trailing_zeros(dom))
+    pub dom: Domain,
 }
 
 // A number at each device.
@@ -51,7 +61,7 @@ pub fn spread(v: i32) -> Held
     let cells = [v; 16];
     Held {
         cells: cells,
-        dom: 65535,
+        dom: Domain { bits: 65535 },
     }
 }
 
@@ -63,20 +73,20 @@ pub fn no_field() -> Held
     let cells = [z; 16];
     Held {
         cells: cells,
-        dom: 0,
+        dom: Domain { bits: 0 },
     }
 }
 
-// Whether a cell in the domain is 0.
-fn zero_in(dom: u16, ys: &[i32; 16]) -> bool
-    ensures { λ r. ⌜ r ≡ anyZero (members dom) (now (ys .entry)) ⌝ }
+// Whether a cell in the domain is 0. The walk is as long as the size says, which goes down with each device.
+fn zero_in(dom: Domain, ys: &[i32; 16]) -> bool
+    ensures { λ r. ⌜ r ≡ anyZero (members (dom .bits)) (now (ys .entry)) ⌝ }
 {
-    let mut rest = dom;
-    let mut left = size(dom);
-    while left > 0 {
-        let k = lowest(rest);
-        rest = without(rest);
-        left -= 1;
+    let mut left = dom;
+    let mut size = dom.size();
+    while size > 0 {
+        let k = left.lowest();
+        left = left.rest();
+        size -= 1;
         if ys[k] == 0 {
             return true;
         }
@@ -85,26 +95,33 @@ fn zero_in(dom: u16, ys: &[i32; 16]) -> bool
 }
 
 // Whether the devices that two fields share have a divisor 0. A field is lent as its domain and its cells.
-pub fn faults_in<'a>(o: u8, left: u16, xs: &'a [i32; 16], right: u16, ys: &'a [i32; 16]) -> bool
-    ensures { λ q. ⌜ q ≡ faultsIn (operatorOf o) (fieldOf left (now (xs .entry))) (fieldOf right (now (ys .entry))) ⌝ }
+pub fn faults_in<'a>(
+    o: u8,
+    left: Domain,
+    xs: &'a [i32; 16],
+    right: Domain,
+    ys: &'a [i32; 16],
+) -> bool
+    ensures { λ q. ⌜ q ≡ faultsIn (operatorOf o) (fieldOf (left .bits) (now (xs .entry))) (fieldOf (right .bits) (now (ys .entry))) ⌝ }
 {
     if o == DIVISION {
-        return zero_in(left & right, ys);
+        let common = left.bits & right.bits;
+        return zero_in(Domain { bits: common }, ys);
     }
     false
 }
 
 // The quotients in the domain, where no divisor is 0. The other cells are 0.
-fn each_div(dom: u16, xs: &[i32; 16], ys: &[i32; 16]) -> [i32; 16]
-    requires { ⌜ anyZero (members dom) (now ys) ≡ false ⌝ }
-    ensures { λ r. ⌜ ((k : ℕ) → k < 16 → hasBit k dom ≡ true → getD r k (pos 0) ≡ over (getD (now (xs .entry)) k (pos 0)) (getD (now (ys .entry)) k (pos 0))) ⌝ }
+fn each_div(dom: Domain, xs: &[i32; 16], ys: &[i32; 16]) -> [i32; 16]
+    requires { ⌜ anyZero (members (dom .bits)) (now ys) ≡ false ⌝ }
+    ensures { λ r. ⌜ ((k : ℕ) → k < 16 → hasBit k (dom .bits) ≡ true → getD r k (pos 0) ≡ over (getD (now (xs .entry)) k (pos 0)) (getD (now (ys .entry)) k (pos 0))) ⌝ }
 {
     let z: i32 = 0;
     let mut out = [z; 16];
-    let mut rest = dom;
-    while rest != 0 {
-        let k = lowest(rest);
-        rest = without(rest);
+    let mut left = dom;
+    while left.bits != 0 {
+        let k = left.lowest();
+        left = left.rest();
         let v = arith::div(xs[k], ys[k]);
         out[k] = v;
     }
@@ -143,9 +160,9 @@ fn each(o: u8, xs: &[i32; 16], ys: &[i32; 16]) -> [i32; 16]
 }
 
 // The cells of an operator on two fields that share the devices of dom.
-fn lanes<'a>(o: u8, dom: u16, xs: &'a [i32; 16], ys: &'a [i32; 16]) -> [i32; 16]
-    requires { ⌜ (o ≡ 3 → anyZero (members dom) (now ys) ≡ false) ⌝ }
-    ensures { λ r. ⌜ ((k : ℕ) → k < 16 → hasBit k dom ≡ true → getD r k (pos 0) ≡ result (operatorOf o) (getD (now (xs .entry)) k (pos 0)) (getD (now (ys .entry)) k (pos 0))) ⌝ }
+fn lanes<'a>(o: u8, dom: Domain, xs: &'a [i32; 16], ys: &'a [i32; 16]) -> [i32; 16]
+    requires { ⌜ (o ≡ 3 → anyZero (members (dom .bits)) (now ys) ≡ false) ⌝ }
+    ensures { λ r. ⌜ ((k : ℕ) → k < 16 → hasBit k (dom .bits) ≡ true → getD r k (pos 0) ≡ result (operatorOf o) (getD (now (xs .entry)) k (pos 0)) (getD (now (ys .entry)) k (pos 0))) ⌝ }
 {
     if o == DIVISION {
         return each_div(dom, xs, ys);
@@ -157,11 +174,12 @@ fn lanes<'a>(o: u8, dom: u16, xs: &'a [i32; 16], ys: &'a [i32; 16]) -> [i32; 16]
 }
 
 // An operator on two fields: at the devices that they share.
-pub fn shared<'a>(o: u8, left: u16, xs: &'a [i32; 16], right: u16, ys: &'a [i32; 16]) -> Held
-    requires { ⌜ faultsIn (operatorOf o) (fieldOf left (now xs)) (fieldOf right (now ys)) ≡ false ⌝ }
-    ensures { λ q. ⌜ held q ≡ pointwise (operatorOf o) (fieldOf left (now (xs .entry))) (fieldOf right (now (ys .entry))) ⌝ }
+pub fn shared<'a>(o: u8, left: Domain, xs: &'a [i32; 16], right: Domain, ys: &'a [i32; 16]) -> Held
+    requires { ⌜ faultsIn (operatorOf o) (fieldOf (left .bits) (now xs)) (fieldOf (right .bits) (now ys)) ≡ false ⌝ }
+    ensures { λ q. ⌜ held q ≡ pointwise (operatorOf o) (fieldOf (left .bits) (now (xs .entry))) (fieldOf (right .bits) (now (ys .entry))) ⌝ }
 {
-    let dom = left & right;
+    let bits = left.bits & right.bits;
+    let dom = Domain { bits: bits };
     let cells = lanes(o, dom, xs, ys);
     Held {
         cells: cells,

@@ -31,10 +31,10 @@ ghost use mathlib.Core.Bool.{cond};
 ghost use Prim.Native.Nat.{_%_, _<_, _≤_};
 ghost use lib.IntN.{pos};
 ghost use Rattle.domain.specs.Held.{fieldOf};
-ghost use Rattle.round.specs.Round.{field, done, arguments, folded, rangeIn, lagIn, sending, eval};
+ghost use Rattle.round.specs.Round.{field, done, arguments, rangeIn, lagIn, sending, eval};
 ghost use Rattle.words.specs.Form.{operatorForm, senseForm, repForm, ifForm, muxForm, callForm, nbrForm, fieldIfForm, leafForms};
 ghost use Rattle.words.specs.Word.{form, count, word};
-ghost use Rattle.apply.specs.State.{stateOf, faultOf, Gives, GivesField, GivesSide};
+ghost use Rattle.apply.specs.State.{stateOf, faultOf, Gives, GivesField, GivesSide, Walks};
 ghost use Rattle.words.specs.Trees.{treeAt, argOf};
 ghost use Rattle.leaf.specs.Asked.{Number, IsField, Argument, Inside, Folding, thirdOn};
 
@@ -406,15 +406,18 @@ fn fold_at(
     }
     let form = unpack::form_of(w);
     if form == LEAST {
-        return apply::fold_least(x, f.dom, &f.cells);
+        let walk = apply::fold_least(x, f.dom, &f.cells);
+        return walk.value;
     }
     if form == FOLD_BY {
-        return fold_by(t, u, here, st, n, unpack::body_of(w), x, f.dom, &f.cells);
+        let walk = fold_by(t, u, here, st, n, unpack::body_of(w), x, f.dom, &f.cells);
+        return walk.value;
     }
-    apply::fold_op(st, n, unpack::item_of(w), x, f.dom, &f.cells)
+    let walk = apply::fold_op(st, n, unpack::item_of(w), x, f.dom, &f.cells);
+    walk.value
 }
 
-// A field folded by a definition, lowest device first.
+// A field folded by a definition, lowest device first: a turn for each device.
 fn fold_by(
     t: &[u64; NODES],
     u: &[u16; NODES],
@@ -423,27 +426,33 @@ fn fold_by(
     n: u16,
     e: u16,
     from: i32,
-    dom: u16,
+    dom: domain::Domain,
     cells: &[i32; 16],
-) -> i32
+) -> apply::Walk
     requires { ⌜ (Number (now t) (now u) (now st) e) × (e < n) ⌝ }
-    ensures { λ r. ⌜ Gives (folded (λ x y s. eval (now (here .entry)) (treeAt (now (t .entry)) e) (arguments x y (pos 0) (pos 0)) s) (fieldOf dom (now (cells .entry))) from
-        (stateOf (now (st .entry)))) r (now (st .exit)) ⌝ }
+    ensures { λ r. ⌜ Walks (λ x y s. eval (now (here .entry)) (treeAt (now (t .entry)) e) (arguments x y (pos 0) (pos 0)) s) (fieldOf (dom .bits) (now (cells .entry))) from
+        (stateOf (now (st .entry))) r (now (st .exit)) ⌝ }
 {
     let mut acc = from;
-    let mut rest = dom;
-    let mut left = domain::size(rest);
-    while left > 0 {
-        let k = domain::lowest(rest);
-        rest = domain::without(rest);
-        left -= 1;
+    let mut left = dom;
+    let mut turns: u32 = 0;
+    while left.bits != 0 {
+        let k = left.lowest();
+        left = left.rest();
+        turns += 1;
         let v = cells[k];
         acc = call(t, u, here, st, n, e, acc, v, 0, 0);
         if st[FAULT] != 0 {
-            return 0;
+            return apply::Walk {
+                value: 0,
+                turns: turns,
+            };
         }
     }
-    acc
+    apply::Walk {
+        value: acc,
+        turns: turns,
+    }
 }
 
 // A node that gives a field. An operator is done in place: a function of its own would take more stack a level.

@@ -49,7 +49,7 @@ pub fn heard_of(here: &[i32; OWN], slot: usize) -> domain::Held
     }
     domain::Held {
         cells: cells,
-        dom: dom,
+        dom: domain::Domain { bits: dom },
     }
 }
 
@@ -71,6 +71,6 @@ pub fn measured(here: &[i32; OWN], slot: usize, from: usize, by: usize) -> domai
     }
     domain::Held {
         cells: cells,
-        dom: dom,
+        dom: domain::Domain { bits: dom },
     }
 }

@@ -163,6 +163,15 @@ fn lags_and_ranges() -> Vec<u8> {
     table(&Draft { definitions: vec![], main, orphans: vec![] })
 }
 
+/// Fifteen folds, each of an nbr: sums, by this kind (10, by operator; 11, by a definition that adds).
+fn sums(kind: u8) -> Vec<u8> {
+    let parameter = |p: u8| Tree::new(1, &[p], vec![]);
+    let nbr = |slot: u8| Tree::new(8, &[slot], vec![Tree::constant(slot.into())]);
+    let fold = |slot: u8| Tree::new(kind, &[0], vec![Tree::constant(0), nbr(slot)]);
+    let main = (2..=15).fold(fold(1), |sum, slot| Tree::sum(sum, fold(slot)));
+    table(&Draft { definitions: vec![(2, Tree::sum(parameter(0), parameter(1)))], main, orphans: vec![] })
+}
+
 /// Runs on a whole fleet.
 fn fleets() -> Vec<Work> {
     let seldom = fleet(square, 5, 20_000);
@@ -180,6 +189,8 @@ fn fleets() -> Vec<Work> {
             fleet(ring, 1, 20_000),
             1,
         ),
+        run("the same with fifteen folds of an nbr by an operator", &sums(10), fleet(ring, 1, 20_000), 1),
+        run("the same with fifteen folds of an nbr by a definition", &sums(11), fleet(ring, 1, 20_000), 1),
         run(
             "run of 20,000 events: distance-to, the grid, one message in five is heard, and fades",
             &distance_to(),

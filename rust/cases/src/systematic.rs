@@ -1,6 +1,6 @@
-//! Cases that leave little to chance: every pair of edge numbers, every cell, every age, what nbr-range and nbr-lag may meet,
-//! also beside nbr in a rep, short histories of what is heard, every truncation, bit and event byte of some programs and
-//! events, and two long runs.
+//! Cases that leave little to chance: every pair of edge numbers, every domain of few devices and of most, every cell,
+//! every age, what nbr-range and nbr-lag may meet, also beside nbr in a rep, short histories of what is heard, every
+//! truncation, bit and event byte of some programs and events, and two long runs.
 
 use crate::grow::{self, Shape};
 use crate::network::ABSENT;
@@ -53,8 +53,9 @@ fn written(draft: Draft) -> Vec<u8> {
 }
 
 /// The labels of all systematic cases.
-pub const LABELS: [&str; 12] = [
+pub const LABELS: [&str; 13] = [
     "each pair of edge numbers",
+    "each domain",
     "each cell",
     "each age",
     "each measure",
@@ -71,6 +72,7 @@ pub const LABELS: [&str; 12] = [
 /// All systematic cases. One call each; `see` gets them in turn.
 pub fn all(see: &mut dyn FnMut(Case)) {
     arithmetic(see);
+    domains(see);
     cells(see);
     ages(see);
     measures(see);
@@ -117,6 +119,74 @@ fn arithmetic(see: &mut dyn FnMut(Case)) {
                 }
             }
         }
+    }
+}
+
+/// The programs that walk a field's devices, each with the number that is heard from device b, one of `bits`.
+type Walk = (Vec<u8>, fn(usize, u32) -> i32);
+
+/// Whether the number of device b is the one 0 that is divided by: of three devices the highest, of one the lowest, of two
+/// there is none, and likewise of as many more than twelve.
+fn divisor_0(b: usize, bits: u32) -> bool {
+    match bits.count_ones() % 3 {
+        0 => bits >> b == 0,
+        1 => bits.trailing_zeros() as usize + 1 == b,
+        _ => false,
+    }
+}
+
+/// Folds by operators, by a definition that weighs each number by its place, and by the lesser; a field divided by.
+fn walks() -> [Walk; 6] {
+    let (c, parameter) = (Tree::constant, |p: u8| Tree::new(1, &[p], vec![]));
+    let op = |o: u8, left: Tree, right: Tree| Tree::new(3, &[o], vec![left, right]);
+    let heard = || Tree::new(8, &[1], vec![c(0)]);
+    let fold = |o: u8, from: i32, field: Tree| plain(Tree::new(10, &[o], vec![c(from), field]));
+    let by = |from: i32, body: Tree| {
+        let main = Tree::new(11, &[0], vec![c(from), heard()]);
+        written(Draft { definitions: vec![(2, body)], main, orphans: vec![] })
+    };
+    let digits = op(0, op(2, parameter(0), c(3)), parameter(1));
+    let lesser = Tree::new(6, &[], vec![op(4, parameter(0), parameter(1)), parameter(0), parameter(1)]);
+    [
+        (fold(1, 5, heard()), |b, _| 1 << b),
+        (fold(4, 1, heard()), |b, _| b as i32 % 3 - 1),
+        (fold(3, i32::MAX - 1, heard()), |b, bits| if divisor_0(b, bits) { 0 } else { 2 }),
+        (fold(0, 0, op(3, c(5_000), heard())), |b, bits| if divisor_0(b, bits) { 0 } else { b as i32 }),
+        (by(0, digits), |b, _| b as i32 * 7 % 17),
+        (by(i32::MAX, lesser), |b, _| b as i32 * 7 % 17 - 8),
+    ]
+}
+
+/// Each domain of at most three devices, and of at least thirteen, walked by the lowest device that is not in it; and as
+/// many sets of variables, which a branch not taken erases.
+fn domains(see: &mut dyn FnMut(Case)) {
+    let walks = walks();
+    let sense = Tree::new(4, &[], vec![Tree::constant(0)]);
+    for bits in (0..0xffff_u32).filter(|bits| !(4..=12).contains(&bits.count_ones())) {
+        let (a, all) = (bits.trailing_ones() as usize + 1, (1..=16).filter(|b| bits >> (b - 1) & 1 == 1));
+        for (program, number) in &walks {
+            let mut cells = network::fresh();
+            for b in all.clone() {
+                cells[network::heard(a, b, 1)] = number(b, bits);
+                cells[network::age(a, b)] = 0;
+            }
+            see(Case {
+                network: cells,
+                list: events::fire(a as u8),
+                expected: crate::DONE,
+                ..case("each domain", Call::Event, program)
+            });
+        }
+        let reps = all.map(|v| Tree::new(5, &[v as u8 - 1], vec![Tree::constant(1), Tree::constant(2)]));
+        let then = reps.reduce(Tree::sum).unwrap_or(Tree::constant(0));
+        let mut cells = network::fresh();
+        (0..16).for_each(|v| cells[network::variable(a, v)] = v as i32);
+        see(Case {
+            network: cells,
+            list: events::fire(a as u8),
+            expected: crate::DONE,
+            ..case("each domain", Call::Event, &plain(Tree::new(6, &[], vec![sense.clone(), then, Tree::constant(3)])))
+        });
     }
 }
 

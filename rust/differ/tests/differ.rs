@@ -7,7 +7,7 @@ use mutants::Mutant;
 use std::collections::BTreeSet;
 use std::process::Command;
 
-const MUTANTS: usize = 350;
+const MUTANTS: usize = 360;
 
 fn alike(report: &Report) {
     if let Some(difference) = &report.difference {

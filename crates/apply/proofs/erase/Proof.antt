@@ -9,10 +9,10 @@ use Rattle.apply.proofs.erase.Statement.{statement}
 use Rattle.apply.proofs.erase.Tie as tie
 
 abbrev Inv-loop : tie.InvT-loop
-Inv-loop st₀ variables rest₀ st rest = wiped (members rest) st ≡ wiped (members variables) st₀
+Inv-loop st₀ mask variables₀ st variables = wiped (members (variables .bits)) st ≡ wiped (members mask) st₀
 
 abbrev μ-loop : tie.MeasureT-loop
-μ-loop st₀ variables rest₀ st rest = rest
+μ-loop st₀ mask variables₀ st variables = variables .bits
 
 loop-holds : tie.Need-loop-holds Inv-loop μ-loop
 loop-holds c = refl
@@ -20,8 +20,8 @@ loop-holds c = refl
 lowest-requires : tie.Need-lowest-requires Inv-loop μ-loop
 lowest-requires c κs = omega arith
 
-without-requires : tie.Need-without-requires Inv-loop μ-loop
-without-requires c κs = omega arith
+rest-requires : tie.Need-rest-requires Inv-loop μ-loop
+rest-requires c κs = omega arith
 
 mul-st : tie.Need-mul-st Inv-loop μ-loop
 mul-st c = search needs
@@ -30,15 +30,15 @@ element-set-of-st : tie.Need-element-set-of-st Inv-loop μ-loop
 element-set-of-st c = omega (arith, (c .before .lowest) .ensures .0)
 
 loop-less : tie.Need-loop-less Inv-loop μ-loop
-loop-less c = (c .without) .ensures .0
+loop-less c = (c .rest) .ensures .0
 
 loop-again : tie.Need-loop-again Inv-loop μ-loop
-loop-again c = wiped-more ((c .before .before .before .loop) .rest) ((c .without) .result) ((c .before .lowest) .result) _ ((c .before .before .before .loop) .st)
-    ((c .before .lowest) .ensures .1) ((c .without) .ensures .1) ∙ (c .before .before .before .loop) .inv
+loop-again c = wiped-more ((c .before .before .before .before .loop) .variables .bits) ((c .rest) .result .bits) ((c .before .lowest) .result) _ ((c .before .before .before .before .loop) .st)
+    ((c .before .lowest) .ensures .1) ((c .rest) .ensures .1) ∙ (c .before .before .before .before .loop) .inv
 
 returns : tie.Need-returns Inv-loop μ-loop
-returns c = erases ((c .before .before) .args .variables) ((c .before .before) .args .st .now) ((c .before .loop) .st)
-    (sym (wiped-none ((c .before .loop) .rest) ((c .before .loop) .st) ((c .loop-test) .left)) ∙ (c .before .loop) .inv)
+returns c = erases ((c .before .before .before) .args .mask) ((c .before .before .before) .args .st .now) ((c .before .before .loop) .st)
+    (sym (wiped-none ((c .before .before .loop) .variables .bits) ((c .before .before .loop) .st) ((c .if1) .left)) ∙ (c .before .before .loop) .inv)
 
 pub erase-spec : {M : Type 1} → statement M
 erase-spec =
@@ -48,7 +48,7 @@ erase-spec =
     μ-loop
     loop-holds
     lowest-requires
-    without-requires
+    rest-requires
     mul-st
     element-set-of-st
     loop-less

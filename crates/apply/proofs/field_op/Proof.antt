@@ -21,8 +21,8 @@ no-field-requires c κs = search needs
 returns : tie.Need-returns
 returns c =
     let s = c .before .before .before .before .before in
-    let f = fieldOf (s .args .left) (s .args .xs .now) in
-    let g = fieldOf (s .args .right) (s .args .ys .now) in
+    let f = fieldOf (s .args .left .bits) (s .args .xs .now) in
+    let g = fieldOf (s .args .right .bits) (s .args .ys .now) in
     let e = sym (c .before .before .before .before .faults-in .ensures) ∙ c .before .before .before .if1 .taken in
     fields-fault (s .args .n) (operatorOf (s .args .o)) f g (stateOf (s .args .st .now)) e (c .before .fault .ensures)
 
@@ -32,8 +32,8 @@ shared-requires c κs = sym (c .before .faults-in .ensures) ∙ c .if1 .left
 returns-2 : tie.Need-returns-2
 returns-2 c =
     let s = c .before .before .before in
-    let f = fieldOf (s .args .left) (s .args .xs .now) in
-    let g = fieldOf (s .args .right) (s .args .ys .now) in
+    let f = fieldOf (s .args .left .bits) (s .args .xs .now) in
+    let g = fieldOf (s .args .right .bits) (s .args .ys .now) in
     let e = sym (c .before .before .faults-in .ensures) ∙ c .before .if1 .left in
     gives (fields-done (s .args .n) (operatorOf (s .args .o)) f g (stateOf (s .args .st .now)) e)
     (gave (ap field (sym (c .shared .ensures))) refl (s .pre .1))

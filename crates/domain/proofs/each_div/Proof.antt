@@ -17,22 +17,22 @@ use Rattle.domain.proofs.each_div.Statement.{statement}
 use Rattle.domain.proofs.each_div.Tie as tie
 
 abbrev Inv-loop : tie.InvT-loop
-Inv-loop dom xs ys z out₀ rest₀ out rest = (anyZero (members rest) ys ≡ false) × Walked (quotient xs ys) dom rest out
+Inv-loop xs ys z out₀ left₀ out left = (anyZero (members (left .bits)) ys ≡ false) × Walked (quotient xs ys) (left₀ .bits) (left .bits) out
 
 abbrev μ-loop : tie.MeasureT-loop
-μ-loop dom xs ys z out₀ rest₀ out rest = rest
+μ-loop xs ys z out₀ left₀ out left = left .bits
 
 loop-holds : tie.Need-loop-holds Inv-loop μ-loop
 loop-holds c = (
   c .pre,
-  walked-none (quotient (c .args .xs .now) (c .args .ys .now)) (c .args .dom) (replicate 16 (pos 0)) refl,
+  walked-none (quotient (c .args .xs .now) (c .args .ys .now)) (c .args .dom .bits) (replicate 16 (pos 0)) refl,
 )
 
 lowest-requires : tie.Need-lowest-requires Inv-loop μ-loop
 lowest-requires c κs = omega arith
 
-without-requires : tie.Need-without-requires Inv-loop μ-loop
-without-requires c κs = omega arith
+rest-requires : tie.Need-rest-requires Inv-loop μ-loop
+rest-requires c κs = omega arith
 
 mul-div : tie.Need-mul-div Inv-loop μ-loop
 mul-div c = search needs
@@ -48,12 +48,11 @@ element-copy-out-div-2 c = c .before .before .lowest .ensures .0
 
 div-requires : tie.Need-div-requires Inv-loop μ-loop
 div-requires c κs =
-    let l = c .before .before .before .before .before .loop in
+    let l = c .before .before .before .before .before .before .loop in
     let k = c .before .before .before .lowest in
-    let w = c .before .before .without in
-    let xs = c .before .before .before .before .before .before .args .xs .now in
-    let ys = c .before .before .before .before .before .before .args .ys .now in
-    λ e. no-zero (l .rest) (w .result) (k .result) _ (k .ensures .1) (w .ensures .1) ys (l .inv .0) (sym (toZ-ofZ w32 (getD ys (k .result) (pos 0)) (sfits-of (c .div-arg2 .given))) ∙ e)
+    let w = c .before .before .rest in
+    let ys = c .before .before .before .before .before .before .before .args .ys .now in
+    λ e. no-zero (l .left .bits) (w .result .bits) (k .result) _ (k .ensures .1) (w .ensures .1) ys (l .inv .0) (sym (toZ-ofZ w32 (getD ys (k .result) (pos 0)) (sfits-of (c .div-arg2 .given))) ∙ e)
 
 mul-out : tie.Need-mul-out Inv-loop μ-loop
 mul-out c = search needs
@@ -62,29 +61,30 @@ array-set-from-out : tie.Need-array-set-from-out Inv-loop μ-loop
 array-set-from-out c = c .before .before .before .before .lowest .ensures .0
 
 loop-less : tie.Need-loop-less Inv-loop μ-loop
-loop-less c = c .before .before .before .without .ensures .0
+loop-less c = c .before .before .before .rest .ensures .0
 
 loop-again : tie.Need-loop-again Inv-loop μ-loop
 loop-again c =
-    let l = c .before .before .before .before .before .before .loop in
+    let l = c .before .before .before .before .before .before .before .loop in
     let k = c .before .before .before .before .lowest in
-    let w = c .before .before .before .without in
-    let xs = c .before .before .before .before .before .before .before .args .xs .now in
-    let ys = c .before .before .before .before .before .before .before .args .ys .now in
+    let w = c .before .before .before .rest in
+    let s = c .before .before .before .before .before .before .before .before in
+    let xs = s .args .xs .now in
+    let ys = s .args .ys .now in
     let v =
     toZ-ofZ w32 (c .div .result) (sfits-of (c .div .ok))
     ∙ c .div .ensures
     ∙ both-read over (getD xs (k .result) (pos 0)) (getD ys (k .result) (pos 0)) (sfits-of (c .before .before .div-arg .given)) (sfits-of (c .before .div-arg2 .given)) in (
-      no-zero-after (l .rest) (w .result) (k .result) _ (k .ensures .1) (w .ensures .1) ys (l .inv .0),
-      walked-more (quotient xs ys) (c .before .before .before .before .before .before .before .args .dom) (l .rest) (w .result) (k .result) _ (l .out) _ (k .ensures .1) (w .ensures .1)
+      no-zero-after (l .left .bits) (w .result .bits) (k .result) _ (k .ensures .1) (w .ensures .1) ys (l .inv .0),
+      walked-more (quotient xs ys) (s .args .dom .bits) (l .left .bits) (w .result .bits) (k .result) _ (l .out) _ (k .ensures .1) (w .ensures .1)
           (k .ensures .0) v (l .inv .1),
     )
 
 returns : tie.Need-returns Inv-loop μ-loop
 returns c =
-    let l = c .before .loop in
-    let s = c .before .before in
-    walked-all (quotient (s .args .xs .now) (s .args .ys .now)) (s .args .dom) (l .rest) (l .out) (none-in (l .rest) (c .loop-test .left)) (l .inv .1)
+    let l = c .before .before .loop in
+    let s = c .before .before .before in
+    walked-all (quotient (s .args .xs .now) (s .args .ys .now)) (s .args .dom .bits) (l .left .bits) (l .out) (none-in (l .left .bits) (c .if1 .left)) (l .inv .1)
 
 pub each-div-spec : {M : Type 1} → statement M
 each-div-spec =
@@ -94,7 +94,7 @@ each-div-spec =
     μ-loop
     loop-holds
     lowest-requires
-    without-requires
+    rest-requires
     mul-div
     element-copy-out-div
     mul-div-2

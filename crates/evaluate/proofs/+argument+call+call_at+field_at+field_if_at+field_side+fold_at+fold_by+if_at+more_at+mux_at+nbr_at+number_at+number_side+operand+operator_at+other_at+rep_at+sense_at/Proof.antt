@@ -3,11 +3,11 @@ use mathlib.Core.Path.{_≡_, refl, sym, ap, _∙_}
 use mathlib.Core.List.{List}
 use Prim.Native.Nat.{ℕ, _+_, _*_, _%_, _<_}
 use native.Mathlib.Omega.{arith}
-use lib.ListN.{length, getD}
+use lib.ListN.{getD}
 use lib.Dec.{ltb, lit<}
 use lib.IntN.{ℤ, pos}
 use mir.Syntax.{w32}
-use mir.Val.{SFits, toZ}
+use mir.Val.{SFits, ofZ, toZ}
 use mir.ValLaws.{toZ-ofZ}
 use mir.Facts.{sfits-lit}
 use borrow.Author.Needs.{needs, sfits-of}
@@ -19,7 +19,7 @@ use Rattle.round.specs.Round.{State, number, field, Outcome, sensed, reps, argu
 use Rattle.arith.proofs.Signs.{both-read}
 use Rattle.domain.specs.Held.{held, fieldOf}
 use Rattle.domain.specs.Members.{members}
-use Rattle.domain.proofs.Laws.{size-members, some-left, none-left, left-next}
+use Rattle.domain.proofs.Laws.{none-in, Turned, turned-none, turned-few, turned-more, turned-all}
 use Rattle.words.specs.Word.{count, word}
 use Rattle.words.specs.Trees.{treeAt}
 use Rattle.apply.specs.State.{stateOf, faultOf}
@@ -96,11 +96,10 @@ use Rattle.apply.proofs.fold_op.Reads as fold-op-reads
 use Rattle.apply.proofs.is_true.Reads as is-true-reads
 use Rattle.apply.proofs.lit_of.Reads as lit-of-reads
 use Rattle.apply.proofs.number_op.Reads as number-op-reads
-use Rattle.domain.proofs.lowest.Reads as lowest-reads
+use Rattle.domain.proofs.Domain.lowest.Reads as lowest-reads
+use Rattle.domain.proofs.Domain.rest.Reads as rest-reads
 use Rattle.domain.proofs.no_field.Reads as no-field-reads
-use Rattle.domain.proofs.size.Reads as size-reads
 use Rattle.domain.proofs.spread.Reads as spread-reads
-use Rattle.domain.proofs.without.Reads as without-reads
 use Rattle.evaluate.proofs.measured_at.Reads as measured-at-reads
 use Rattle.heard.proofs.heard_of.Reads as heard-of-reads
 use Rattle.leaf.proofs.leaf.Reads as leaf-reads
@@ -401,7 +400,7 @@ fold-at-calls t = (
 )
 
 abbrev fold-by-calls : ℕ → fold-by-lts.Claims
-fold-by-calls t = (size-reads.Asked, size-reads.Learnt, lowest-reads.Asked, lowest-reads.Learnt, without-reads.Asked, without-reads.Learnt, call-below t, call.Post)
+fold-by-calls t = (lowest-reads.Asked, lowest-reads.Learnt, rest-reads.Asked, rest-reads.Learnt, call-below t, call.Post)
 
 abbrev if-at-calls : ℕ → if-at-lts.Claims
 if-at-calls t = (
@@ -857,7 +856,7 @@ field-at-item-of-requires t c κs = search needs
 
 field-at-field-op-requires : (t : ℕ) → field-at-lts.Need-field-op-requires (field-at-calls t) (field-at-at t) field-at.Post
 field-at-field-op-requires t c κs =
-    let at-if2 = c .before .before .before .before .before .before in
+    let at-if2 = c .before .before .before .before .before .before .before .before in
     let at-if22 = at-if2 .before in
     let at-field-side2 = at-if22 .before in
     let s = at-field-side2 .before .before .before .before .before .before .before .before .before .before .before in
@@ -882,7 +881,7 @@ field-at-returns-4 t c = c .field-if-at .ensures
 
 field-at-returns-5 : (t : ℕ) → field-at-lts.Need-returns-5 (field-at-calls t) (field-at-at t) field-at.Post
 field-at-returns-5 t c =
-    let at-item-of = c .before .before .before .before .before in
+    let at-item-of = c .before .before .before .before .before .before .before in
     let at-if2 = at-item-of .before .before in
     let at-if22 = at-if2 .before in
     let at-field-side2 = at-if22 .before in
@@ -1166,7 +1165,8 @@ fold-at-fold-least-requires t c κs = search needs
 
 fold-at-returns-3 : (t : ℕ) → fold-at-lts.Need-returns-3 (fold-at-calls t) (fold-at-at t) fold-at.Post
 fold-at-returns-3 t c =
-    let at-if3 = c .before .before .before in
+    let at-fold-least = c .before in
+    let at-if3 = at-fold-least .before .before .before .before in
     let at-form-of = at-if3 .before in
     let at-if2 = at-form-of .before in
     let at-if22 = at-if2 .before in
@@ -1182,8 +1182,8 @@ fold-at-returns-3 t c =
     (at-first .first .ensures) (at-second .second .ensures)
     ∙ goes _ (at-operand .operand .ensures) (sfits-of (at-if12 .if12 .given)) (at-if1 .if1 .left)
     ∙ goes _ (at-field-at .field-at .ensures) (sfits-of (at-if22 .if22 .given)) (at-if2 .if2 .left)
-    ∙ least-read _ (at-operand .operand .result) _ (sfits-of (at-operand .operand .ok)) (c .fold-least .ensures) _)
-    (gave (ap number (sym (toZ-ofZ w32 (c .fold-least .result) (sfits-of (c .fold-least .ok))))) refl
+    ∙ least-read _ (at-operand .operand .result) _ (sfits-of (at-operand .operand .ok)) (at-fold-least .fold-least .ensures .0) _)
+    (gave (ap number (sym (toZ-ofZ w32 (at-fold-least .fold-least .result .value) (sfits-of (c .struct-told .given .0 .1))))) refl
     (clear (at-field-at .field-at .last .1 .1 .1 .0) (sfits-of (at-if22 .if22 .given)) (at-if2 .if2 .left)))
 
 fold-at-body-of-requires : (t : ℕ) → fold-at-lts.Need-body-of-requires (fold-at-calls t) (fold-at-at t) fold-at.Post
@@ -1191,7 +1191,7 @@ fold-at-body-of-requires t c κs = search needs
 
 fold-at-fold-by-requires : (t : ℕ) → fold-at-lts.Need-fold-by-requires (fold-at-calls t) (fold-at-at t) fold-at.Post
 fold-at-fold-by-requires t c κs =
-    let at-body-of = c .before .before in
+    let at-body-of = c .before .before .before in
     let at-if4 = at-body-of .before .before in
     let at-form-of = at-if4 .before .before in
     let at-if2 = at-form-of .before in
@@ -1204,7 +1204,8 @@ fold-at-fold-by-requires t c κs =
 
 fold-at-returns-4 : (t : ℕ) → fold-at-lts.Need-returns-4 (fold-at-calls t) (fold-at-at t) fold-at.Post
 fold-at-returns-4 t c =
-    let at-body-of = c .before .before .before in
+    let at-fold-by = c .before in
+    let at-body-of = at-fold-by .before .before .before .before in
     let at-if4 = at-body-of .before .before in
     let at-form-of = at-if4 .before .before in
     let at-if2 = at-form-of .before in
@@ -1221,14 +1222,14 @@ fold-at-returns-4 t c =
     (at-body-of .body-of .ensures) (at-first .first .ensures) (at-second .second .ensures)
     ∙ goes _ (at-operand .operand .ensures) (sfits-of (at-if12 .if12 .given)) (at-if1 .if1 .left)
     ∙ goes _ (at-field-at .field-at .ensures) (sfits-of (at-if22 .if22 .given)) (at-if2 .if2 .left))
-    (passed (sfits-of (c .fold-by .ok)) (from-read _ _ _ (at-operand .operand .result) (sfits-of (at-operand .operand .ok)) (c .fold-by .ensures)))
+    (passed (sfits-of (c .struct-told2 .given .0 .1)) (from-read _ _ _ (at-operand .operand .result) (sfits-of (at-operand .operand .ok)) (at-fold-by .fold-by .ensures .leaves)))
 
 fold-at-item-of-requires : (t : ℕ) → fold-at-lts.Need-item-of-requires (fold-at-calls t) (fold-at-at t) fold-at.Post
 fold-at-item-of-requires t c κs = search needs
 
 fold-at-fold-op-requires : (t : ℕ) → fold-at-lts.Need-fold-op-requires (fold-at-calls t) (fold-at-at t) fold-at.Post
 fold-at-fold-op-requires t c κs =
-    let at-if2 = c .before .before .before .before .before .before .before in
+    let at-if2 = c .before .before .before .before .before .before .before .before in
     let at-if22 = at-if2 .before in
     let at-field-at = at-if22 .before in
     let s = at-field-at .before .before .before .before .before .before .before .before .before in
@@ -1236,7 +1237,8 @@ fold-at-fold-op-requires t c κs =
 
 fold-at-returns-5 : (t : ℕ) → fold-at-lts.Need-returns-5 (fold-at-calls t) (fold-at-at t) fold-at.Post
 fold-at-returns-5 t c =
-    let at-item-of = c .before .before .before in
+    let at-fold-op = c .before in
+    let at-item-of = at-fold-op .before .before .before .before in
     let at-if4 = at-item-of .before .before in
     let at-if3 = at-if4 .before in
     let at-form-of = at-if3 .before in
@@ -1255,42 +1257,39 @@ fold-at-returns-5 t c =
     (at-item-of .item-of .ensures) (at-first .first .ensures) (at-second .second .ensures)
     ∙ goes _ (at-operand .operand .ensures) (sfits-of (at-if12 .if12 .given)) (at-if1 .if1 .left)
     ∙ goes _ (at-field-at .field-at .ensures) (sfits-of (at-if22 .if22 .given)) (at-if2 .if2 .left))
-    (passed (sfits-of (c .fold-op .ok)) (from-read _ _ _ (at-operand .operand .result) (sfits-of (at-operand .operand .ok)) (c .fold-op .ensures)))
+    (passed (sfits-of (c .struct-told3 .given .0 .1)) (from-read _ _ _ (at-operand .operand .result) (sfits-of (at-operand .operand .ok)) (at-fold-op .fold-op .ensures .leaves)))
 
 abbrev fold-by-Inv-loop : fold-by-lts.InvT-loop
-fold-by-Inv-loop t u here st₀ n e from dom cells acc₀ rest₀ left₀ st acc rest left =
-    (along (by t e here) (members rest) cells (toZ w32 acc) (stateOf st) ≡ folded (by t e here) (fieldOf dom cells) (toZ w32 from) (stateOf st₀))
-    × (left ≡ length (members rest))
+fold-by-Inv-loop t u here st₀ n e from cells acc₀ left₀ turns₀ st acc left turns =
+    (along (by t e here) (members (left .bits)) cells (toZ w32 acc) (stateOf st) ≡ folded (by t e here) (fieldOf (left₀ .bits) cells) (toZ w32 from) (stateOf st₀))
+    × Turned (left₀ .bits) (left .bits) turns
     × (faultOf st ≡ pos 0)
 
 abbrev fold-by-μ-loop : fold-by-lts.MeasureT-loop
-fold-by-μ-loop t u here st₀ n e from dom cells acc₀ rest₀ left₀ st acc rest left =
-    left
-
-fold-by-size-requires : (t : ℕ) → fold-by-lts.Need-size-requires (fold-by-calls t) (fold-by-at t) fold-by.Post fold-by-Inv-loop fold-by-μ-loop
-fold-by-size-requires t c κs = search needs
+fold-by-μ-loop t u here st₀ n e from cells acc₀ left₀ turns₀ st acc left turns =
+    left .bits
 
 fold-by-loop-holds : (t : ℕ) → fold-by-lts.Need-loop-holds (fold-by-calls t) (fold-by-at t) fold-by.Post fold-by-Inv-loop fold-by-μ-loop
 fold-by-loop-holds t c =
-    let s = c .before in (
-      sym (fold-starts (by (s .args .t .now) (s .args .e) (s .args .here .now)) (s .args .dom) (s .args .cells .now) _ (stateOf (s .args .st .now))),
-      c .size .ensures ∙ size-members (s .args .dom) (omega arith),
+    let s = c in (
+      sym (fold-starts (by (s .args .t .now) (s .args .e) (s .args .here .now)) (s .args .dom .bits) (s .args .cells .now) _ (stateOf (s .args .st .now))),
+      turned-none (s .args .dom .bits),
       s .pre .1 .0 .clear,
     )
 
 fold-by-lowest-requires : (t : ℕ) → fold-by-lts.Need-lowest-requires (fold-by-calls t) (fold-by-at t) fold-by.Post fold-by-Inv-loop fold-by-μ-loop
-fold-by-lowest-requires t c κs =
-    let at-loop = c .before in
-    some-left (at-loop .loop .rest) (at-loop .loop .left) (at-loop .loop .inv .1) (c .loop-test .taken)
+fold-by-lowest-requires t c κs = omega (arith, c .if1 .taken)
 
-fold-by-without-requires : (t : ℕ) → fold-by-lts.Need-without-requires (fold-by-calls t) (fold-by-at t) fold-by.Post fold-by-Inv-loop fold-by-μ-loop
-fold-by-without-requires t c κs =
-    let at-loop-test = c .before in
-    let at-loop = at-loop-test .before in
-    some-left (at-loop .loop .rest) (at-loop .loop .left) (at-loop .loop .inv .1) (at-loop-test .loop-test .taken)
+fold-by-rest-requires : (t : ℕ) → fold-by-lts.Need-rest-requires (fold-by-calls t) (fold-by-at t) fold-by.Post fold-by-Inv-loop fold-by-μ-loop
+fold-by-rest-requires t c κs =
+    let at-if1 = c .before in
+    omega (arith, at-if1 .if1 .taken)
 
-fold-by-sub-left : (t : ℕ) → fold-by-lts.Need-sub-left (fold-by-calls t) (fold-by-at t) fold-by.Post fold-by-Inv-loop fold-by-μ-loop
-fold-by-sub-left t c = search needs
+fold-by-add-turns : (t : ℕ) → fold-by-lts.Need-add-turns (fold-by-calls t) (fold-by-at t) fold-by.Post fold-by-Inv-loop fold-by-μ-loop
+fold-by-add-turns t c =
+    let at-loop = c .before .before .before .before in
+    let s = at-loop .before in
+    record { fits = omega (arith, turned-few (s .args .dom .bits) (at-loop .loop .left .bits) (at-loop .loop .turns) (at-loop .loop .inv .1)) }
 
 fold-by-mul-v : (t : ℕ) → fold-by-lts.Need-mul-v (fold-by-calls t) (fold-by-at t) fold-by.Post fold-by-Inv-loop fold-by-μ-loop
 fold-by-mul-v t c = search needs
@@ -1302,65 +1301,72 @@ fold-by-element-copy-out-v t c =
 
 fold-by-call-requires : (t : ℕ) → fold-by-lts.Need-call-requires (fold-by-calls t) (fold-by-at t) fold-by.Post fold-by-Inv-loop fold-by-μ-loop
 fold-by-call-requires t c κs =
-    let at-loop = c .before .before .before .before .before in
-    let s = at-loop .before .before in
+    let at-loop = c .before .before .before .before .before .before in
+    let s = at-loop .before in
     let q = s .pre .1 .0 in
     (omega (arith, s .pre .0), (record { sound = q .sound; inside = q .inside; sort = q .sort; clear = at-loop .loop .inv .2 }, s .pre .1 .1))
 
-fold-by-element-copy-out-if1 : (t : ℕ) → fold-by-lts.Need-element-copy-out-if1 (fold-by-calls t) (fold-by-at t) fold-by.Post fold-by-Inv-loop fold-by-μ-loop
-fold-by-element-copy-out-if1 t c = search needs
+fold-by-element-copy-out-if2 : (t : ℕ) → fold-by-lts.Need-element-copy-out-if2 (fold-by-calls t) (fold-by-at t) fold-by.Post fold-by-Inv-loop fold-by-μ-loop
+fold-by-element-copy-out-if2 t c = search needs
 
 fold-by-returns : (t : ℕ) → fold-by-lts.Need-returns (fold-by-calls t) (fold-by-at t) fold-by.Post fold-by-Inv-loop fold-by-μ-loop
 fold-by-returns t c =
     let at-call = c .before .before in
     let at-v = at-call .before .before in
-    let at-without = at-v .before in
-    let at-lowest = at-without .before in
-    let at-loop = at-lowest .before .before in
-    let s = at-loop .before .before in
-    let from = ap (λ (p : ℤ). folded (by (s .args .t .now) (s .args .e) (s .args .here .now)) (fieldOf (s .args .dom) (s .args .cells .now)) p (stateOf (s .args .st .now)))
+    let at-rest = at-v .before in
+    let at-lowest = at-rest .before in
+    let at-loop = at-lowest .before .before .before in
+    let s = at-loop .before in
+    let from = ap (λ (p : ℤ). folded (by (s .args .t .now) (s .args .e) (s .args .here .now)) (fieldOf (s .args .dom .bits) (s .args .cells .now)) p (stateOf (s .args .st .now)))
     (sym (toZ-ofZ w32 (s .args .from) (s .fits .from))) in
-    gives (from ∙ sym (at-loop .loop .inv .0)
-    ∙ fold-turns (by (s .args .t .now) (s .args .e) (s .args .here .now)) (at-loop .loop .rest) (s .args .cells .now) (toZ w32 (at-loop .loop .acc)) (stateOf (at-loop .loop .st))
-    (at-without .without .result) (at-lowest .lowest .result) _ (at-lowest .lowest .ensures .1) (at-without .without .ensures .1))
-    (fails _ _ (second-read _ _ _ (toZ w32 (at-loop .loop .acc)) (getD (s .args .cells .now) (at-lowest .lowest .result) (pos 0)) (sfits-of (at-v .v .given)) (at-call .call .ensures))
-    (c .if1 .taken))
+    let fault = fails _ _ (second-read _ _ _ (toZ w32 (at-loop .loop .acc)) (getD (s .args .cells .now) (at-lowest .lowest .result) (pos 0)) (sfits-of (at-v .v .given))
+    (at-call .call .ensures)) (c .if2 .taken) in
+    record {
+      leaves = gives (from ∙ sym (at-loop .loop .inv .0)
+          ∙ fold-turns (by (s .args .t .now) (s .args .e) (s .args .here .now)) (at-loop .loop .left .bits) (s .args .cells .now) (toZ w32 (at-loop .loop .acc)) (stateOf (at-loop .loop .st))
+          (at-rest .rest .result .bits) (at-lowest .lowest .result) _ (at-lowest .lowest .ensures .1) (at-rest .rest .ensures .1)) fault;
+      turns = λ e. absurd (c .if2 .taken (ap (ofZ w32) e));
+    }
 
 fold-by-loop-less : (t : ℕ) → fold-by-lts.Need-loop-less (fold-by-calls t) (fold-by-at t) fold-by.Post fold-by-Inv-loop fold-by-μ-loop
 fold-by-loop-less t c =
-    let at-loop-test = c .before .before .before .before .before .before .before in
-    omega (arith, at-loop-test .loop-test .taken)
+    let at-rest = c .before .before .before .before .before in
+    at-rest .rest .ensures .0
 
 fold-by-loop-again : (t : ℕ) → fold-by-lts.Need-loop-again (fold-by-calls t) (fold-by-at t) fold-by.Post fold-by-Inv-loop fold-by-μ-loop
 fold-by-loop-again t c =
-    let at-if12 = c .before in
-    let at-call = at-if12 .before in
+    let at-if22 = c .before in
+    let at-call = at-if22 .before in
     let at-v = at-call .before .before in
-    let at-without = at-v .before in
-    let at-lowest = at-without .before in
-    let at-loop = at-lowest .before .before in
-    let s = at-loop .before .before in (
-      ap (λ (p : ℤ). along (by (s .args .t .now) (s .args .e) (s .args .here .now)) (members (at-without .without .result)) (s .args .cells .now) p
+    let at-rest = at-v .before in
+    let at-lowest = at-rest .before in
+    let at-loop = at-lowest .before .before .before in
+    let s = at-loop .before in (
+      ap (λ (p : ℤ). along (by (s .args .t .now) (s .args .e) (s .args .here .now)) (members (at-rest .rest .result .bits)) (s .args .cells .now) p
           (stateOf (at-call .call .last .1 .1 .1 .0))) (toZ-ofZ w32 (at-call .call .result) (sfits-of (at-call .call .ok)))
-          ∙ sym (fold-turns (by (s .args .t .now) (s .args .e) (s .args .here .now)) (at-loop .loop .rest) (s .args .cells .now) (toZ w32 (at-loop .loop .acc)) (stateOf (at-loop .loop .st))
-          (at-without .without .result) (at-lowest .lowest .result) _ (at-lowest .lowest .ensures .1) (at-without .without .ensures .1)
+          ∙ sym (fold-turns (by (s .args .t .now) (s .args .e) (s .args .here .now)) (at-loop .loop .left .bits) (s .args .cells .now) (toZ w32 (at-loop .loop .acc))
+          (stateOf (at-loop .loop .st)) (at-rest .rest .result .bits) (at-lowest .lowest .result) _ (at-lowest .lowest .ensures .1) (at-rest .rest .ensures .1)
           ∙ goes _ (second-read _ _ _ (toZ w32 (at-loop .loop .acc)) (getD (s .args .cells .now) (at-lowest .lowest .result) (pos 0)) (sfits-of (at-v .v .given)) (at-call .call .ensures))
-          (sfits-of (at-if12 .if12 .given)) (c .if1 .left))
+          (sfits-of (at-if22 .if22 .given)) (c .if2 .left))
           ∙ at-loop .loop .inv .0,
-      left-next (at-loop .loop .rest) (at-without .without .result) _ (at-without .without .ensures .1) (at-loop .loop .left) (at-loop .loop .inv .1),
-      clear (at-call .call .last .1 .1 .1 .0) (sfits-of (at-if12 .if12 .given)) (c .if1 .left),
+      turned-more (s .args .dom .bits) (at-loop .loop .left .bits) (at-loop .loop .turns) (at-loop .loop .inv .1) (at-rest .rest .result .bits) _ (at-rest .rest .ensures .1),
+      clear (at-call .call .last .1 .1 .1 .0) (sfits-of (at-if22 .if22 .given)) (c .if2 .left),
     )
 
 fold-by-returns-2 : (t : ℕ) → fold-by-lts.Need-returns-2 (fold-by-calls t) (fold-by-at t) fold-by.Post fold-by-Inv-loop fold-by-μ-loop
 fold-by-returns-2 t c =
-    let at-loop = c .before in
-    let s = at-loop .before .before in
-    let from = ap (λ (p : ℤ). folded (by (s .args .t .now) (s .args .e) (s .args .here .now)) (fieldOf (s .args .dom) (s .args .cells .now)) p (stateOf (s .args .st .now)))
+    let at-loop = c .before .before in
+    let s = at-loop .before in
+    let from = ap (λ (p : ℤ). folded (by (s .args .t .now) (s .args .e) (s .args .here .now)) (fieldOf (s .args .dom .bits) (s .args .cells .now)) p (stateOf (s .args .st .now)))
     (sym (toZ-ofZ w32 (s .args .from) (s .fits .from))) in
-    gives (from ∙ sym (at-loop .loop .inv .0)
-    ∙ fold-ends (by (s .args .t .now) (s .args .e) (s .args .here .now)) (at-loop .loop .rest) (s .args .cells .now) (toZ w32 (at-loop .loop .acc)) (stateOf (at-loop .loop .st))
-    (none-left (at-loop .loop .rest) (at-loop .loop .left) (at-loop .loop .inv .1) (omega (arith, c .loop-test .left))))
-    (gave refl refl (at-loop .loop .inv .2))
+    let none = none-in (at-loop .loop .left .bits) (omega (arith, c .if1 .left)) in
+    record {
+      leaves = gives (from ∙ sym (at-loop .loop .inv .0)
+          ∙ fold-ends (by (s .args .t .now) (s .args .e) (s .args .here .now)) (at-loop .loop .left .bits) (s .args .cells .now) (toZ w32 (at-loop .loop .acc)) (stateOf (at-loop .loop .st))
+          none)
+          (gave refl refl (at-loop .loop .inv .2));
+      turns = λ e. turned-all (s .args .dom .bits) (at-loop .loop .left .bits) (at-loop .loop .turns) (at-loop .loop .inv .1) none (s .args .cells .now);
+    }
 
 if-at-mul-w : (t : ℕ) → if-at-lts.Need-mul-w (if-at-calls t) (if-at-at t) if-at.Post
 if-at-mul-w t c = search needs
@@ -2433,15 +2439,14 @@ pub +argument+call+call-at+field-at+field-if-at+field-side+fold-at+fold-by+if-at
     fold-by.Post
     fold-by-Inv-loop
     fold-by-μ-loop
-    (fold-by-size-requires t)
     (fold-by-loop-holds t)
     (fold-by-lowest-requires t)
-    (fold-by-without-requires t)
-    (fold-by-sub-left t)
+    (fold-by-rest-requires t)
+    (fold-by-add-turns t)
     (fold-by-mul-v t)
     (fold-by-element-copy-out-v t)
     (fold-by-call-requires t)
-    (fold-by-element-copy-out-if1 t)
+    (fold-by-element-copy-out-if2 t)
     (fold-by-returns t)
     (fold-by-loop-less t)
     (fold-by-loop-again t)
