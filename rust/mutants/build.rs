@@ -6,11 +6,17 @@ use std::path::{Path, PathBuf};
 use std::{env, fs};
 
 include!("edits.rs");
+include!("text_edits.rs");
+
+/// All edits, those of the engine before those of the reader of texts.
+fn edits() -> impl Iterator<Item = &'static Edit> {
+    EDITS.iter().chain(TEXT_EDITS)
+}
 
 fn main() {
     let sources = Path::new(&env::var("CARGO_MANIFEST_DIR").unwrap()).join("../second/src");
     let out = PathBuf::from(env::var("OUT_DIR").unwrap());
-    for input in [sources.to_str().unwrap(), "edits.rs", "build.rs"] {
+    for input in [sources.to_str().unwrap(), "edits.rs", "text_edits.rs", "build.rs"] {
         println!("cargo:rerun-if-changed={input}");
     }
     let mut copied = 0;
@@ -25,10 +31,11 @@ fn main() {
         copied += count;
         fs::write(out.join(name), text).unwrap();
     }
-    assert_eq!(copied, EDITS.len(), "an edit names a file that is not there");
+    assert_eq!(copied, edits().count(), "an edit names a file that is not there");
     let mut mutants = format!("#[path = {:?}]\nmod copy;\n", out.join("lib.rs").to_str().unwrap());
-    let names: Vec<&str> = EDITS.iter().map(|edit| edit.0).collect();
+    let names: Vec<&str> = edits().map(|edit| edit.0).collect();
     writeln!(mutants, "const NAMES: &[&str] = &{names:?};").unwrap();
+    writeln!(mutants, "const OF_THE_ENGINE: usize = {};", EDITS.len()).unwrap();
     fs::write(out.join("mutants.rs"), mutants).unwrap();
 }
 
@@ -37,7 +44,7 @@ fn with_switches(file: &str, text: &str) -> (String, usize) {
     // From the place of a part to its end and its switches.
     let mut parts: BTreeMap<usize, (usize, String)> = BTreeMap::new();
     let mut count = 0;
-    for (number, (name, of_file, at, wrong)) in EDITS.iter().enumerate() {
+    for (number, (name, of_file, at, wrong)) in edits().enumerate() {
         if *of_file != file {
             continue;
         }

@@ -53,9 +53,11 @@ macro_rules! folded {
     };
 }
 
-/// The bugs: name, file of the second engine, its text with the part « » that is replaced, what replaces it.
+/// A bug: name, file of the second engine, its text with the part « » that is replaced, what replaces it.
 /// A part is an expression, or statements (with a `;`) that leave no name behind.
-const EDITS: &[(&str, &str, &str, &str)] = &[
+type Edit = (&'static str, &'static str, &'static str, &'static str);
+
+const EDITS: &[Edit] = &[
     // 01's five shortcuts.
     ("shortcut: merges a receipt slot by slot", "network.rs", "«self.heard.insert(from, message);»", "self.heard.entry(from).or_default().extend(message);"),
     (

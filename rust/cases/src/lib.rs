@@ -5,11 +5,14 @@
 pub mod answers;
 pub mod broken;
 pub mod events;
+pub mod every_text;
 pub mod grow;
 pub mod network;
 pub mod random;
+pub mod spell;
 pub mod systematic;
 pub mod table;
+pub mod texts;
 
 use broken::Expected;
 use grow::Shape;

@@ -5,8 +5,10 @@
 mod lent;
 mod report;
 mod show;
+mod texts;
 
 pub use report::Report;
+pub use texts::{catch_text_mutants, compare_every_text, compare_texts, Reader, TextReport};
 
 use cases::table::split;
 use cases::{Call, Case};

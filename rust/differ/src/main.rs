@@ -2,7 +2,9 @@
 #![deny(warnings)]
 #![forbid(unsafe_code)]
 
-use differ::{catch_mutants, compare_all, compare_systematic, Engine, Report, Second};
+use differ::{catch_mutants, catch_text_mutants, compare_all, compare_every_text, compare_systematic, compare_texts};
+use differ::{Engine, Reader, Report, Second, TextReport};
+use mutants::Mutant;
 use std::process::ExitCode;
 use std::time::Instant;
 
@@ -92,14 +94,41 @@ fn stage(
     end(wrong.is_empty())
 }
 
+/// One comparison of readers of texts; whether it found no difference, and met all that it should.
+fn text_stage(
+    readers: &[&dyn Reader],
+    what: &str,
+    compare: impl Fn() -> TextReport,
+    gaps: impl Fn(&TextReport) -> Vec<String>,
+) -> bool {
+    let start = Instant::now();
+    let names: Vec<String> = readers.iter().map(|reader| reader.name()).collect();
+    println!("{}: {what}", names.join(" against "));
+    let report = compare();
+    for (label, numbers) in &report.labels {
+        let numbers: Vec<String> = numbers.iter().map(|(number, times)| format!("{number} x {times}")).collect();
+        println!("    {label}: {}", numbers.join(", "));
+    }
+    println!("  returned: {:?}", report.returned);
+    println!("  {} labels, {} texts, {:.1} s", report.labels.len(), report.cases, start.elapsed().as_secs_f32());
+    let wrong = report.difference.as_ref().map_or_else(|| gaps(&report), |difference| vec![difference.clone()]);
+    for what in &wrong {
+        println!("{what}");
+    }
+    end(wrong.is_empty())
+}
+
+/// Each mutant with the number of cases after which it was caught, if it was.
+type Caught = Vec<(Mutant, Option<u64>)>;
+
 /// Every mutant must be caught.
-fn mutants(seed: u64, cases: u64) -> bool {
+fn mutants(what: &str, within: &str, catch: impl Fn() -> Result<Caught, String>) -> bool {
     std::panic::set_hook(Box::new(|_| {}));
     let start = Instant::now();
-    let all = match catch_mutants(&Second, seed, cases) {
+    let all = match catch() {
         Ok(all) => all,
-        Err(what) => {
-            println!("mutants: {what}");
+        Err(wrong) => {
+            println!("mutants: {wrong}");
             return end(false);
         }
     };
@@ -113,7 +142,7 @@ fn mutants(seed: u64, cases: u64) -> bool {
     }
     caught.sort();
     println!(
-        "mutants: {} caught within {cases} cases and two long runs, {} missed, {:.1} s",
+        "{what}: {} caught within {within}, {} missed, {:.1} s",
         caught.len(),
         missed.len(),
         start.elapsed().as_secs_f32()
@@ -144,8 +173,16 @@ fn main() -> ExitCode {
     let gaps = |report: &Report| if few { vec![] } else { report.gaps() };
     let mut passed = stage(engines, "systematic cases", || compare_systematic(engines), Report::systematic_gaps);
     passed &= stage(engines, &what, || compare_all(engines, seed, cases), gaps);
+    // The proved engine's reader comes in here.
+    let readers: &[&dyn Reader] = &[&Second];
+    let gaps = |report: &TextReport| if few { vec![] } else { report.random_gaps() };
+    passed &= text_stage(readers, "systematic texts", || compare_every_text(readers), TextReport::systematic_gaps);
+    passed &= text_stage(readers, &format!("{what}, texts"), || compare_texts(readers, seed, cases), gaps);
     if within > 0 {
-        passed &= mutants(seed, within);
+        let cases = format!("{within} cases and two long runs");
+        passed &= mutants("mutants", &cases, || catch_mutants(&Second, seed, within));
+        let texts = format!("{within} texts and the few systematic ones");
+        passed &= mutants("mutants of the reader", &texts, || catch_text_mutants(&Second, seed, within));
     }
     if passed {
         ExitCode::SUCCESS

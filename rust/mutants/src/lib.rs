@@ -47,9 +47,19 @@ impl Mutant {
         self.on();
         copy::run(program, network, list, answers)
     }
+
+    pub fn read_text(self, text: &[u8], table: &mut [u8]) -> (u32, usize) {
+        self.on();
+        copy::read_text(text, table)
+    }
 }
 
-/// One mutant for each edit.
+/// One mutant for each edit of the engine.
 pub fn all() -> impl Iterator<Item = Mutant> {
-    (0..NAMES.len()).map(Mutant)
+    (0..OF_THE_ENGINE).map(Mutant)
+}
+
+/// One mutant for each edit of the reader of texts.
+pub fn of_texts() -> impl Iterator<Item = Mutant> {
+    (OF_THE_ENGINE..NAMES.len()).map(Mutant)
 }

@@ -1,17 +1,20 @@
 //! The second engine: document 01 once more, with trees for programs and maps for networks.
 //!
 //! It is the outside check of the proved engine: written from document 01 ("01"), 02's requests, 000's figures, the shared
-//! notes and `docs/DECISIONS.md`, with nothing read under `crates/`.
+//! notes and `docs/DECISIONS.md`, with nothing read under `crates/`; of the reader of texts `../README.md` says more.
 //! Each call returns 01's number and place, and leaves every buffer as 01 states.
 #![deny(warnings)]
 #![forbid(unsafe_code)]
 
+mod begins;
 mod event;
 mod network;
 mod number;
 mod round;
 mod table;
+mod text;
 mod tree;
+mod words;
 
 use event::Event;
 use network::Network;
@@ -57,6 +60,24 @@ pub fn event(program: &[u8], network: &mut [i32], list: &[u8], answers: &mut [i3
 /// Does the events of `list` from first to last.
 pub fn run(program: &[u8], network: &mut [i32], list: &[u8], answers: &mut [i32]) -> (u32, usize) {
     returned(carry_out(program, network, || event::all(list), answers))
+}
+
+/// Reads a program's text; its table goes to the start of `table`, and its length is the place.
+pub fn read_text(text: &[u8], table: &mut [u8]) -> (u32, usize) {
+    match compile(text, table) {
+        Ok(length) => (0, length),
+        Err(refusal) => (refusal.number, refusal.place),
+    }
+}
+
+fn compile(text: &[u8], space: &mut [u8]) -> Result<usize, Refusal> {
+    let bytes = text::read(text)?;
+    table::read(&bytes)?;
+    match space.get_mut(..bytes.len()) {
+        Some(start) => start.copy_from_slice(&bytes),
+        None => return refused(13, 0),
+    }
+    Ok(bytes.len())
 }
 
 /// What one event and a run share; `events` reads the list, after program and network are tested.

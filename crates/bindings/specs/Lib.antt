@@ -1,0 +1,4 @@
+pub mod Scan
+pub mod Good
+pub mod Meaning
+pub mod Sought

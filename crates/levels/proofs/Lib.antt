@@ -1,0 +1,6 @@
+pub mod Steps
+pub mod Forms
+pub mod Table
+pub mod Held
+pub mod Laws
+pub mod Shown

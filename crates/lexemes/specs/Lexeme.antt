@@ -1,0 +1,70 @@
+-- The token that begins at or behind a place of a text, and the one that ends at or before it, as numbers. `proofs/Laws.antt` proves that they are the tokens of notation's layout.
+use mathlib.Core.Bool.{cond}
+use mathlib.Core.List.{List, [], _∷_, reverse}
+use mathlib.Core.Logic.{_⊎_}
+use Prim.Native.Nat.{ℕ, suc, _+_, _-_}
+use lib.Dec.{eqb}
+use lib.ListN.{take, drop}
+use Rattle.notation.specs.Words.{Word, between}
+use Rattle.notation.specs.Grammar.{Token, opening, closing, word}
+use Rattle.notation.specs.Text.{Sort, gap, left, right, letter, sort, Apart}
+use Rattle.lexemes.specs.declared.Lexeme.{Lexeme}
+
+-- 0 a blank, 1 an opening bracket, 2 a closing one, 3 part of a word
+abbrev pub kindOf : Sort → ℕ
+kindOf gap = 0
+kindOf left = 1
+kindOf right = 2
+kindOf letter = 3
+
+-- how many bytes of that kind lead
+unfoldable pub leading : ℕ → List ℕ → ℕ
+leading k [] = 0
+leading k (b ∷ s) = cond (eqb (kindOf (sort b)) k) (suc (leading k s)) 0
+
+abbrev pub gaps : List ℕ → ℕ
+gaps s = leading 0 s
+
+abbrev pub letters : List ℕ → ℕ
+letters s = leading 3 s
+
+-- 0 the end, 1 an opening bracket, 2 a closing one, 3 a word; how many bytes it has
+abbrev pub kindAt : List ℕ → ℕ
+kindAt [] = 0
+kindAt (b ∷ s) = kindOf (sort b)
+
+abbrev pub sizeBy : Sort → List ℕ → ℕ
+sizeBy gap s = 0
+sizeBy left s = 1
+sizeBy right s = 1
+sizeBy letter s = letters s
+
+abbrev pub sizeAt : List ℕ → ℕ
+sizeAt [] = 0
+sizeAt (b ∷ s) = sizeBy (sort b) (b ∷ s)
+
+abbrev pub lexemeFrom : ℕ → List ℕ → Lexeme
+lexemeFrom start s = record { kind = kindAt s; start = start; end = start + sizeAt s }
+
+abbrev pub nextLexeme : List ℕ → ℕ → Lexeme
+nextLexeme s at = lexemeFrom (at + gaps (drop at s)) (drop (at + gaps (drop at s)) s)
+
+-- the same of the bytes before a place, the nearest first
+abbrev pub lexemeTo : ℕ → List ℕ → Lexeme
+lexemeTo end back = record { kind = kindAt back; start = end - sizeAt back; end = end }
+
+abbrev pub lastLexeme : List ℕ → ℕ → Lexeme
+lastLexeme s at =
+    let back : List ℕ = reverse (take at s) in
+    lexemeTo (at - gaps back) (drop (gaps back) back)
+
+-- the token of those numbers
+abbrev pub tokenBy : ℕ → Word → Token
+tokenBy k w = cond (eqb k 1) opening (cond (eqb k 2) closing (word w))
+
+abbrev pub tokenOf : List ℕ → Lexeme → Token
+tokenOf s r = tokenBy (r .kind) (between (r .start) (r .end) s)
+
+-- a place that is not inside a word: none reaches up to it, or none goes on there
+unfoldable pub Parted : List ℕ → ℕ → Type 0
+Parted s at = Apart (reverse (take at s)) ⊎ Apart (drop at s)

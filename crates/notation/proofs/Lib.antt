@@ -1,0 +1,14 @@
+pub mod Words
+pub mod Machine
+pub mod Lexing
+pub mod Viable
+pub mod Extends
+pub mod Finish
+pub mod Place
+pub mod Rules
+pub mod Unique
+pub mod Shown
+pub mod ShownWords
+pub mod ShownPlaces
+pub mod ShownLayout
+pub mod ShownGrammar

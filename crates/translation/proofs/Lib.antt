@@ -1,0 +1,7 @@
+pub mod Answered
+pub mod Parsed
+pub mod Shown
+pub mod ShownTables
+pub mod ShownNames
+pub mod ShownLimits
+pub mod ShownReads

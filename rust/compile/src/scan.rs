@@ -1,0 +1,352 @@
+//! The tool's own look at a text, to explain what the engine's reader answered: which word stands where, which node
+//! and field comes from which words, which name is bad. It decides nothing.
+
+/// Bytes of a text, from the first to behind the last.
+#[derive(Clone, Copy, Debug, PartialEq, Eq)]
+pub struct Span {
+    pub start: usize,
+    pub end: usize,
+}
+
+/// A node of the table: where its words stand, and what it is.
+#[derive(Clone, Copy, Debug, PartialEq, Eq)]
+pub struct Node {
+    pub span: Span,
+    pub kind: &'static str,
+}
+
+/// What a bracket that is open belongs to.
+#[derive(Clone, Copy, Debug, PartialEq, Eq)]
+enum Role {
+    /// Its head is not read yet.
+    New,
+    Definition,
+    Parameters,
+    /// A form with so many parts behind its head.
+    Form {
+        kind: &'static str,
+        parts: usize,
+    },
+    Call,
+}
+
+#[derive(Clone, Copy, Debug)]
+struct Frame {
+    start: usize,
+    head: Span,
+    role: Role,
+    /// Parts behind the head so far.
+    met: usize,
+    /// How many names were bound around it.
+    bound: usize,
+}
+
+/// What was found in a text, or in its beginning.
+pub struct Scan<'t> {
+    text: &'t [u8],
+    pub nodes: Vec<Node>,
+    /// Where each field of the table comes from, main's besides.
+    pub fields: Vec<Span>,
+    /// The first name that is bad, and why.
+    pub bad_name: Option<(Span, String)>,
+    frames: Vec<Frame>,
+    definitions: Vec<Span>,
+    /// The names that are bound here, the nearest last, with the kind of node that reads each.
+    bound: Vec<(Span, &'static str)>,
+    main: Option<Span>,
+}
+
+const RESERVED: [&str; 10] = ["def", "sense", "rep", "if", "mux", "nbr", "nbr-range", "nbr-lag", "fold-hood*", "inf"];
+const OPERATORS: [&str; 9] = ["+", "-", "*", "/", "<", ">", ">=", "==", "!="];
+
+fn is_blank(byte: u8) -> bool {
+    matches!(byte, b' ' | b'\n' | b'\r')
+}
+
+fn is_bracket(byte: u8) -> bool {
+    matches!(byte, b'(' | b')')
+}
+
+/// The bracket or word that stands at a byte or next behind it.
+pub fn next_token(text: &[u8], from: usize) -> Option<Span> {
+    let start = from + text.get(from..)?.iter().position(|byte| !is_blank(*byte))?;
+    let ends = |byte: &u8| is_blank(*byte) || is_bracket(*byte);
+    let length = text[start..].iter().position(ends).unwrap_or(text.len() - start);
+    Some(Span { start, end: start + length.max(1) })
+}
+
+/// The form of a head, unless it is def or a call.
+fn form(word: &[u8]) -> Option<Role> {
+    let (kind, parts) = match word {
+        b"sense" => ("sense", 1),
+        b"rep" => ("rep", 3),
+        b"if" => ("if", 3),
+        b"mux" => ("mux", 3),
+        b"nbr" => ("nbr", 1),
+        b"nbr-range" => ("nbr-range", 0),
+        b"nbr-lag" => ("nbr-lag", 0),
+        b"fold-hood*" => ("fold", 3),
+        _ if OPERATORS.iter().any(|operator| operator.as_bytes() == word) => ("operator", 2),
+        _ => return None,
+    };
+    Some(Role::Form { kind, parts })
+}
+
+impl<'t> Scan<'t> {
+    /// Scans the words that end at or before a byte; they begin a text of the grammar.
+    pub fn up_to(text: &'t [u8], end: usize) -> Scan<'t> {
+        let mut scan = Scan {
+            text,
+            nodes: vec![],
+            fields: vec![],
+            bad_name: None,
+            frames: vec![],
+            definitions: vec![],
+            bound: vec![],
+            main: None,
+        };
+        let mut at = 0;
+        while let Some(token) = next_token(text, at).filter(|token| token.end <= end) {
+            match scan.word(token) {
+                b"(" => scan.open(token),
+                b")" => scan.close(token),
+                _ => scan.plain(token),
+            }
+            at = token.end;
+        }
+        scan
+    }
+
+    pub fn word(&self, span: Span) -> &'t [u8] {
+        &self.text[span.start..span.end]
+    }
+
+    /// A word as people read it; what is no printable character is shown as ?, and a long one is cut.
+    pub fn shown(&self, span: Span) -> String {
+        let word = self.word(span);
+        let printable = |byte: &u8| if byte.is_ascii_graphic() { char::from(*byte) } else { '?' };
+        let cut = if word.len() > 40 { ".." } else { "" };
+        format!("`{}{cut}`", word.iter().take(40).map(printable).collect::<String>())
+    }
+
+    fn same(&self, one: Span, two: Span) -> bool {
+        self.word(one) == self.word(two)
+    }
+
+    fn bad(&mut self, span: Span, why: String) {
+        self.bad_name.get_or_insert((span, why));
+    }
+
+    fn open(&mut self, token: Span) {
+        let parameters = matches!(self.frames.last(), Some(Frame { role: Role::Definition, met: 1, .. }));
+        let role = if parameters { Role::Parameters } else { Role::New };
+        self.frames.push(Frame { start: token.start, head: token, role, met: 0, bound: self.bound.len() });
+    }
+
+    fn close(&mut self, token: Span) {
+        let Some(frame) = self.frames.pop() else {
+            return;
+        };
+        let span = Span { start: frame.start, end: token.end };
+        let kind = match frame.role {
+            Role::Parameters => {
+                self.part();
+                return;
+            }
+            Role::Definition => {
+                self.fields.push(span);
+                self.definitions.push(frame.head);
+                self.bound.clear();
+                return;
+            }
+            Role::Form { kind, .. } => kind,
+            Role::Call | Role::New => "call",
+        };
+        self.bound.truncate(frame.bound);
+        self.node(span, kind);
+    }
+
+    /// A node is complete.
+    fn node(&mut self, span: Span, kind: &'static str) {
+        self.nodes.push(Node { span, kind });
+        self.fields.push(span);
+        if self.frames.is_empty() {
+            self.main = Some(span);
+        }
+        self.part();
+    }
+
+    /// A part of the innermost bracket is complete.
+    fn part(&mut self) {
+        let Some(frame) = self.frames.last_mut() else {
+            return;
+        };
+        frame.met += 1;
+        // Behind its initial part a rep binds its name.
+        if let Frame { role: Role::Form { kind: "rep", .. }, met: 2, head, .. } = *frame {
+            let name = next_token(self.text, head.end);
+            self.bound.extend(name.map(|name| (name, "variable")));
+        }
+    }
+
+    fn plain(&mut self, token: Span) {
+        let frame = self.frames.last().copied();
+        match frame {
+            Some(Frame { role: Role::New, .. }) => self.head(token),
+            Some(Frame { role: Role::Definition, met: 0, .. }) => self.define(token),
+            Some(Frame { role: Role::Parameters, bound, .. }) => self.parameter(token, bound),
+            Some(Frame { role: Role::Form { kind: "rep", .. }, met: 0, .. }) => {
+                self.not_reserved(token, "variable");
+                self.part();
+            }
+            Some(Frame { role: Role::Form { kind: "fold", .. }, met: 0, .. }) => {
+                if form(self.word(token)).is_none() {
+                    self.known(token);
+                }
+                self.part();
+            }
+            _ => self.leaf(token),
+        }
+    }
+
+    fn head(&mut self, token: Span) {
+        let role = match self.word(token) {
+            b"def" => Role::Definition,
+            word => form(word).unwrap_or(Role::Call),
+        };
+        if role == Role::Call {
+            self.known(token);
+        }
+        if let Some(frame) = self.frames.last_mut() {
+            (frame.head, frame.role) = (token, role);
+        }
+    }
+
+    fn define(&mut self, token: Span) {
+        self.not_reserved(token, "definition");
+        if let Some(first) = self.definitions.iter().copied().find(|name| self.same(*name, token)) {
+            let (line, column) = Lines::of(self.text).position(first.start);
+            let why = format!("{} is defined already, in line {line}, column {column}.", self.shown(token));
+            self.bad(token, why);
+        }
+        if let Some(frame) = self.frames.last_mut() {
+            frame.head = token;
+        }
+        self.part();
+    }
+
+    fn parameter(&mut self, token: Span, first: usize) {
+        self.not_reserved(token, "parameter");
+        if self.bound[first..].iter().any(|(name, _)| self.same(*name, token)) {
+            self.bad(token, format!("the definition has the parameter {} twice.", self.shown(token)));
+        }
+        self.bound.push((token, "parameter"));
+        self.part();
+    }
+
+    fn not_reserved(&mut self, token: Span, what: &str) {
+        if RESERVED.iter().any(|word| word.as_bytes() == self.word(token)) {
+            self.bad(token, format!("{} is a word of the notation and cannot name a {what}.", self.shown(token)));
+        }
+    }
+
+    /// A head, or the function of a fold.
+    fn known(&mut self, token: Span) {
+        if self.bad_name.is_some() || self.definitions.iter().any(|name| self.same(*name, token)) {
+            return;
+        }
+        let itself = self.frames.iter().any(|frame| frame.role == Role::Definition && self.same(frame.head, token));
+        let why = match itself {
+            true => "a definition does not see itself; there is no recursion.",
+            false => "there is no definition of this name above.",
+        };
+        self.bad(token, format!("{}: {why}", self.shown(token)));
+    }
+
+    fn leaf(&mut self, token: Span) {
+        let word = self.word(token);
+        let is_number = word == b"inf" || !word[0].is_ascii_lowercase();
+        let bound = || self.bound.iter().rfind(|(name, _)| self.same(*name, token));
+        let kind = if is_number { Some("constant") } else { bound().map(|(_, kind)| *kind) };
+        if kind.is_none() {
+            let why = match self.definitions.iter().any(|name| self.same(*name, token)) {
+                true => "is a definition: a call of it stands in brackets.",
+                false => "is no parameter here, and no variable of a rep whose update this is.",
+            };
+            self.bad(token, format!("{} {why}", self.shown(token)));
+        }
+        let kind = kind.unwrap_or("name");
+        self.node(token, kind);
+    }
+
+    pub fn main(&self) -> Option<Span> {
+        self.main
+    }
+
+    pub fn depth(&self) -> usize {
+        self.frames.len()
+    }
+
+    /// What must or may stand next, in words.
+    pub fn wanted(&self) -> String {
+        let Some(frame) = self.frames.last() else {
+            return match self.main {
+                Some(_) => "nothing follows the main expression".into(),
+                None => "here stands a definition or the main expression".into(),
+            };
+        };
+        let head = self.shown(frame.head);
+        let count = |parts: usize, what: &str| match parts {
+            1 => format!("one {what}"),
+            parts => format!("{parts} {what}s"),
+        };
+        match (frame.role, frame.met) {
+            (Role::New, _) => {
+                "an opening bracket is followed by an operator, a word of the notation or a definition's name".into()
+            }
+            (Role::Definition, 0) => "`def` is followed by the definition's name".into(),
+            (Role::Definition, 1) => "the parameters stand in brackets, also where there is one or none".into(),
+            (Role::Definition, 2) => "here stands the definition's body".into(),
+            (Role::Definition, _) => "a definition has one body, and a bracket closes it".into(),
+            (Role::Parameters, 4) => "a definition has at most 4 parameters".into(),
+            (Role::Parameters, _) => "here stands a parameter's name or the closing bracket".into(),
+            (Role::Form { kind: "rep", .. }, 0) => "`rep` is followed by the variable's name".into(),
+            (Role::Form { kind: "fold", .. }, 0) => {
+                "`fold-hood*` is followed by an operator or the name of a definition".into()
+            }
+            (Role::Form { kind: "rep", parts }, met) if met < parts => {
+                format!("{head} takes a name, an initial part and an update, and has {} so far", count(met, "part"))
+            }
+            (Role::Form { kind: "fold", parts }, met) if met < parts => {
+                format!("{head} takes a function, an initial number and a field, and has {} so far", count(met, "part"))
+            }
+            (Role::Form { parts, .. }, met) if met < parts => {
+                format!("{head} takes {}, and has {met} so far", count(parts, "operand"))
+            }
+            (Role::Form { kind: "rep" | "fold", .. }, _) => {
+                format!("{head} has all its parts, and a bracket closes it")
+            }
+            (Role::Form { parts: 0, .. }, _) => format!("{head} takes no operand, and a bracket closes it"),
+            (Role::Form { parts, .. }, _) => {
+                format!("{head} takes {}, and a bracket closes it", count(parts, "operand"))
+            }
+            (Role::Call, _) => "here stands an operand or the closing bracket".into(),
+        }
+    }
+}
+
+/// Where the lines of a text begin. A line ends with byte 10, 13, or both in this order.
+pub struct Lines(Vec<usize>);
+
+impl Lines {
+    pub fn of(text: &[u8]) -> Lines {
+        let ends = |at: &usize| text[*at] == b'\n' || text[*at] == b'\r' && text.get(at + 1) != Some(&b'\n');
+        Lines([0].into_iter().chain((0..text.len()).filter(ends).map(|end| end + 1)).collect())
+    }
+
+    /// The line and column of a byte, both from 1; a column is a byte.
+    pub fn position(&self, at: usize) -> (usize, usize) {
+        let line = self.0.partition_point(|start| *start <= at);
+        (line, at - self.0[line - 1] + 1)
+    }
+}
