@@ -7,12 +7,14 @@
 //
 // A slice is passed as a pointer and its length in elements. What the host owes, and all that it owes:
 // - the pointer is aligned for its type and points to that many elements, which can be read (and written, where it isn't const);
-// - what a call may write (network, space) overlaps none of its other arguments; what it only reads may overlap;
+// - what a call may write (network, space, table) overlaps none of its other arguments; what it only reads may overlap;
 // - until the call returns nobody else writes what it was lent, nor reads what it may write. Bytes of a mapped file are lent only if
 //   nothing changes or shortens the file meanwhile; else copy them;
-// - 256 KiB of free stack (128 KiB for cuddystove_check): measured on the deepest programs by tests/host, not proved.
+// - 256 KiB of free stack (128 KiB for cuddystove_check and cuddystove_read_text): measured on the deepest programs, and on texts of
+//   1 MB, by tests/host, not proved.
 // A slice of length 0 may have any pointer, NULL too, as an empty std::vector gives it: nothing is read or written through it.
-// What the slices hold is free: a call has no condition on it, answers a bad table, network or list with a refusal, and always ends.
+// What the slices hold is free: a call has no condition on it, answers a bad table, text, network or list with a refusal, and always
+// ends.
 // The library uses no heap and keeps nothing between calls, so threads may call it at the same time, each on slices of its own.
 #ifndef CUDDYSTOVE_H
 #define CUDDYSTOVE_H // this header was read
@@ -20,8 +22,8 @@
 #include <stddef.h>
 #include <stdint.h>
 
-#define CUDDYSTOVE_VERSION "0.3.0"    // of this header and its library; a change of cells, bytes or answers raises the middle number
-#define CUDDYSTOVE_VERSION_NUMBER 300 // the same to compare: 10,000, 100 and 1 times its numbers
+#define CUDDYSTOVE_VERSION "0.4.0"    // of this header and its library; a change of cells, bytes or answers raises the middle number
+#define CUDDYSTOVE_VERSION_NUMBER 400 // the same to compare: 10,000, 100 and 1 times its numbers
 
 // A result that must be looked at: the compiler warns where it is dropped (gcc also where it is cast to void).
 #if defined(__cplusplus) && __cplusplus >= 201703L
@@ -42,11 +44,11 @@
 extern "C" {
 #endif
 
-// What a call returns: 0 and 0 when it did its work, else a refusal from 1 to 13 and its place (below). A refused call changed no
-// buffer.
+// What a call returns: number 0 when it did its work, else a refusal, 1 to 13, 19 or 20, and its place (below). With number 0 comes
+// place 0, but for cuddystove_read_text, whose place is then the table's length. A refused call changed no buffer.
 struct cuddystove_verdict {
     uint32_t number; // 0, or the refusal: enum cuddystove_refusal
-    size_t place;    // where it was found; 0 with number 0, and where a refusal has no place
+    size_t place;    // where it was found, 0 where a refusal has no place; with number 0 as said above
 };
 
 // What the two runs of cuddystove_run_both returned, each as in struct cuddystove_verdict.
@@ -60,6 +62,14 @@ struct cuddystove_verdicts {
 // Checks a program table: 0 and 0 if it is accepted, else a refusal from 1 to 10. Nothing is written.
 CUDDYSTOVE_LOOK
 struct cuddystove_verdict cuddystove_check(const uint8_t *program, size_t program_length);
+
+// Reads a program as text (docs/MANUAL.md, 4) and writes its table to the start of the slice: number 0, and the place is the table's
+// length; the rest of the slice is as before. The table has then passed the check. Else, in this order, 19, 20, what the check says of
+// the table (1, 2, 3, 7, 9 or 10), or 13 where the slice is shorter than the table; nothing is written. The text may be any bytes, of
+// any length and depth; the time goes with the square of its length at worst, so a host bounds what strangers send. 4,096 bytes are
+// room for every table.
+CUDDYSTOVE_LOOK
+struct cuddystove_verdict cuddystove_read_text(const uint8_t *text, size_t text_length, uint8_t *table, size_t table_length);
 
 // Makes a network fresh, whatever it held: sensors and pending marks 0, all other cells absent. 11 and place 0, with nothing
 // written, if its length is not CUDDYSTOVE_CELLS.
@@ -121,7 +131,7 @@ struct cuddystove_verdicts cuddystove_run_both(const uint8_t *program, size_t pr
 // heard from that sender; the distance stays. So three rounds read a message, and the fourth no longer. Rounds are counted, not time:
 // nothing else changes an age, neither a round that divides by 0 (17) nor a loss, a link, a signal or a refused event.
 
-// ---- Refusals. Returned: 1 to 13. In answers: 14 to 17.
+// ---- Refusals. Returned: 1 to 13, 19 and 20. In answers: 14 to 17. Of ./replay alone: 18.
 
 // The number of a verdict, and the first number of an answer.
 enum cuddystove_refusal {
@@ -138,14 +148,18 @@ enum cuddystove_refusal {
     CUDDYSTOVE_TOO_COSTLY = 10,      // A round of the program costs more than 1,000,000.
     CUDDYSTOVE_UNSOUND = 11,         // The network is not 8,720 cells long (place 0), or a cell holds what it may not.
     CUDDYSTOVE_BAD_LIST = 12,        // An event of the list is of unknown tag, of the wrong length, cut short, missing or one too many.
-    CUDDYSTOVE_SHORT_SPACE = 13,     // The answer space is shorter than two numbers an event.
+    CUDDYSTOVE_SHORT_SPACE = 13,     // The answer space is shorter than two numbers an event, or the table's slice than the table.
     CUDDYSTOVE_BAD_ITEM = 14,        // A device, sensor, switch or distance of the event is out of range.
     CUDDYSTOVE_ITSELF = 15,          // The event goes from a device to itself.
     CUDDYSTOVE_NOTHING_PENDING = 16, // No message is pending to be delivered or lost.
-    CUDDYSTOVE_DIVIDED_BY_0 = 17     // The round divided by 0, and the fire changed nothing.
+    CUDDYSTOVE_DIVIDED_BY_0 = 17,    // The round divided by 0, and the fire changed nothing.
+    CUDDYSTOVE_BAD_FILE = 18,        // A file of the replay is absent, cannot be read or has more than 4,096 bytes.
+    CUDDYSTOVE_OUTSIDE = 19,         // The text is outside the notation: no program is written so.
+    CUDDYSTOVE_BAD_NAME = 20         // A name of the text is unresolved, repeated or reserved.
 };
 // The place of 1 to 5 and 12 is the number of whole fields before the bad one, that of 7 to 9 the lowest offending node, that of 11
-// the lowest offending cell; all others have place 0.
+// the lowest offending cell, that of 19 how many bytes of the text, from its first on, are shared with a text of the notation (what is
+// wrong stands there, or just before); all others have place 0. With number 0 the place of cuddystove_read_text is the table's length.
 //
 // An answer is two numbers: 0 and the value (that of a fire; 0 for other events), or the refusal and 0, or 17 and the node that
 // divided.
@@ -212,11 +226,12 @@ enum cuddystove_operator {
 // A refusal's short name; 'done' for 0, 'unknown refusal' for a number that is none.
 static inline const char *cuddystove_name(int64_t number) {
     static const char *const names[] = {
-        "done",     "bad field",          "too many", "out of range",       "not given",       "taken",
-        "bad end",  "wrong sort",         "misread",  "misused definition", "too costly",      "unsound network",
-        "bad list", "short answer space", "bad item", "to itself",          "nothing pending", "divided by 0",
+        "done",     "bad field",            "too many", "out of range",       "not given",       "taken",
+        "bad end",  "wrong sort",           "misread",  "misused definition", "too costly",      "unsound network",
+        "bad list", "short space",          "bad item", "to itself",          "nothing pending", "divided by 0",
+        "bad file", "outside the notation", "bad name",
     };
-    return number >= 0 && number <= CUDDYSTOVE_DIVIDED_BY_0 ? names[number] : "unknown refusal";
+    return number >= 0 && number <= CUDDYSTOVE_BAD_NAME ? names[number] : "unknown refusal";
 }
 
 // What a refusal means, in a sentence for people: the comments of enum cuddystove_refusal.
@@ -235,21 +250,25 @@ static inline const char *cuddystove_sentence(int64_t number) {
     case CUDDYSTOVE_TOO_COSTLY: return "A round of the program costs more than 1,000,000.";
     case CUDDYSTOVE_UNSOUND: return "The network is not 8,720 cells long (place 0), or a cell holds what it may not.";
     case CUDDYSTOVE_BAD_LIST: return "An event of the list is of unknown tag, of the wrong length, cut short, missing or one too many.";
-    case CUDDYSTOVE_SHORT_SPACE: return "The answer space is shorter than two numbers an event.";
+    case CUDDYSTOVE_SHORT_SPACE: return "The answer space is shorter than two numbers an event, or the table's slice than the table.";
     case CUDDYSTOVE_BAD_ITEM: return "A device, sensor, switch or distance of the event is out of range.";
     case CUDDYSTOVE_ITSELF: return "The event goes from a device to itself.";
     case CUDDYSTOVE_NOTHING_PENDING: return "No message is pending to be delivered or lost.";
     case CUDDYSTOVE_DIVIDED_BY_0: return "The round divided by 0, and the fire changed nothing.";
+    case CUDDYSTOVE_BAD_FILE: return "A file of the replay is absent, cannot be read or has more than 4,096 bytes.";
+    case CUDDYSTOVE_OUTSIDE: return "The text is outside the notation: no program is written so.";
+    case CUDDYSTOVE_BAD_NAME: return "A name of the text is unresolved, repeated or reserved.";
     default: return "No refusal of the engine has this number.";
     }
 }
 
-// What the place of a returned refusal counts, from 0: a field of the program, a node, a cell, an event; "" where it has none, as 11
-// has none for a network of a wrong length.
+// What the place of a returned refusal counts, from 0: a field of the program, a node, a cell, an event, a byte of the text (of one that
+// only lacks its end, that behind its last); "" where it has none, as 11 has none for a network of a wrong length.
 static inline const char *cuddystove_counted(int64_t number, size_t place) {
     if (number >= CUDDYSTOVE_BAD_FIELD && number <= CUDDYSTOVE_TAKEN) return "field of the program";
     if (number >= CUDDYSTOVE_WRONG_SORT && number <= CUDDYSTOVE_MISUSED) return "node";
     if (number == CUDDYSTOVE_UNSOUND && place != 0) return "cell";
+    if (number == CUDDYSTOVE_OUTSIDE) return "byte of the text";
     return number == CUDDYSTOVE_BAD_LIST ? "event" : "";
 }
 

@@ -1,10 +1,11 @@
-// Every call on accepted and refused inputs, each refusal from 1 to 17, rounds with every kind of node, ages and lags. Each slice lies
+// Every call on accepted and refused inputs, each refusal but 18, rounds with every kind of node, ages and lags, texts. Each slice lies
 // against a page that cannot be touched, once at its end and once at its start, and what a call only reads cannot be written: a stray
 // access ends this program. It uses no heap and no stdio, so that valgrind counts the library's own allocations. Prints the cases that
 // failed and 'N passed, M failed'.
 #define _GNU_SOURCE
 #include "cuddystove.h"
 #include "bytes.h"
+#include <stdio.h>
 #include <string.h>
 #include <sys/mman.h>
 #include <unistd.h>
@@ -32,7 +33,7 @@ static void judge(const char *what, int good) {
 
 // ---- Lent memory
 
-enum slice { PROGRAM, NETWORK, NETWORK2, LIST, LIST2, SPACE, SPACE2, SLICES };
+enum slice { PROGRAM, TEXT, TABLE, NETWORK, NETWORK2, LIST, LIST2, SPACE, SPACE2, SLICES };
 static uint8_t *room[SLICES];
 
 static void make_rooms(void) {
@@ -52,7 +53,7 @@ static void *at(enum slice s, size_t bytes, enum place place) {
 static void *lend(enum slice s, const void *from, size_t bytes, enum place place) {
     if (bytes > ROOM || mprotect(room[s], ROOM, PROT_READ | PROT_WRITE) != 0) _exit(5);
     if (bytes > 0) memcpy(at(s, bytes, place), from, bytes);
-    if ((s == PROGRAM || s == LIST || s == LIST2) && mprotect(room[s], ROOM, PROT_READ) != 0) _exit(6);
+    if ((s == PROGRAM || s == TEXT || s == LIST || s == LIST2) && mprotect(room[s], ROOM, PROT_READ) != 0) _exit(6);
     return at(s, bytes, place);
 }
 static int holds(enum slice s, const void *expected, size_t bytes, enum place place) {
@@ -1216,6 +1217,182 @@ static void operators(void) {
     }
 }
 
+// ---- Texts
+
+// A text lent with a slice of so many bytes: what comes back. The slice then starts with that table, and its rest is as before.
+static void reads(const char *text, size_t text_length, size_t slice, uint32_t number, size_t place, const uint8_t *table, size_t length) {
+    static uint8_t before[2600], expected[2600];
+    int good = slice <= sizeof before && length <= slice;
+    for (size_t i = 0; i < sizeof before; i++) before[i] = expected[i] = (uint8_t)(0x80 + i % 101);
+    if (good && length > 0) memcpy(expected, table, length);
+    for (int i = FIRST; good && i < PLACES; i++) {
+        const enum place there = (enum place)i;
+        const uint8_t *t = lend(TEXT, text, text_length, there);
+        uint8_t *s = lend(TABLE, before, slice, there);
+        const struct cuddystove_verdict v = cuddystove_read_text(t, text_length, s, slice);
+        good = v.number == number && v.place == place && holds(TABLE, expected, slice, there);
+    }
+    judge(text, good);
+}
+// A refused text: whatever slice there is, nothing is written.
+static void refused_bytes(const char *text, size_t text_length, uint32_t number, size_t place) {
+    static const size_t slices[] = {0, 1, 4, 39, 2560};
+    for (size_t i = 0; i < sizeof slices / sizeof slices[0]; i++) reads(text, text_length, slices[i], number, place, NULL, 0);
+}
+static void refused_text(const char *text, uint32_t number, size_t place) { refused_bytes(text, strlen(text), number, place); }
+// A text and its table: in a slice that is longer, exactly as long, one too short, too short by all but a byte, and empty.
+static void text_of(const char *text, const uint8_t *table, size_t length) {
+    const size_t text_length = strlen(text);
+    reads(text, text_length, 2560, 0, length, table, length);
+    reads(text, text_length, length + 1, 0, length, table, length);
+    reads(text, text_length, length, 0, length, table, length);
+    reads(text, text_length, length - 1, 13, 0, NULL, 0);
+    reads(text, text_length, 1, 13, 0, NULL, 0);
+    reads(text, text_length, 0, 13, 0, NULL, 0);
+}
+#define TEXT_OF(text, ...)                            \
+    do {                                              \
+        static const uint8_t table[] = {__VA_ARGS__}; \
+        text_of(text, table, sizeof table);           \
+    } while (0)
+#define MIN_TEXT "(def min (a b) (if (< a b) a b))\n"
+
+// Texts that are accepted, each with its table; most are those of the rounds above, as their comments have them.
+static void texts(void) {
+    // 01's program (i), in 01's hex.
+    TEXT_OF("(rep x 0 (+ x 1))", 0x01, 0x00, 0x05, 0x00, 0x00, 0x00, 0x00, 0x00, 0x01, 0x00, 0x02, 0x02, 0x00, 0x01, 0x00, 0x05, 0x00, 0x00,
+            0x00, 0x00, 0x01, 0x01, 0x00, 0x04, 0x03, 0x00, 0x01, 0x02, 0x01, 0x00, 0x04, 0x05, 0x00, 0x00, 0x03, 0x03, 0x00, 0x01, 0x04);
+    text_of("(rep x 0 (+ x 1))", counter, sizeof counter);
+    text_of("\r\n ( rep\rx 00\n(+ x 1 ) )   \n", counter, sizeof counter);
+    text_of(MIN_TEXT "(rep d inf (mux (sense 1) 0 (fold-hood* min inf (+ (nbr d) (nbr-range)))))", distance, sizeof distance);
+    // 000's distance-to, as examples/line-of-four has it.
+    TEXT_OF(MIN_TEXT "(def distance-to (source)\n  (rep d inf\n    (mux source 0\n      (fold-hood* min inf (+ (nbr d) (nbr-range))))))\n"
+                     "(distance-to (sense 1))\n",
+            PARAMETER(0), PARAMETER(1), OPERATOR(LESS, 0, 1), PARAMETER(0), PARAMETER(1), IF(2, 3, 4), DEFINITION(2, 5), //  0 to 5
+            CONST(CUDDYSTOVE_INF), PARAMETER(0), CONST(0), CONST(CUDDYSTOVE_INF), VARIABLE(0), NBR(1, 10), RANGE(2),     //  6 to 12
+            OPERATOR(PLUS, 11, 12), FOLD_BY(0, 9, 13), MUX(7, 8, 14), REP(0, 6, 15), DEFINITION(1, 16),                  // 13 to 16
+            CONST(1), SENSE(17), CALL1(1, 18), MAIN(19));                                                                // 17 to 19
+    text_of("(+ (fold-hood* - 1000 (/ 120 (nbr-range)))\n"
+            "   (* 10 (+ (fold-hood* > 5 (- (nbr (sense 2)) 1))\n"
+            "            (fold-hood* * 1 (if (sense 3) (+ (nbr 6) (nbr-range)) (/ (nbr-range) 8))))))", fields, sizeof fields);
+    text_of("(def over (a b) (/ a b)) (over 8 (sense 3))", calls_over, sizeof calls_over);
+    text_of("(def over (a b) (/ a b)) (fold-hood* over 100 (nbr (sense 3)))", folds_over, sizeof folds_over);
+    text_of("(fold-hood* * 3 (/ (nbr 1) 0))", empty_over, sizeof empty_over);
+    text_of("(mux 2 5 6)", mux_2, sizeof mux_2);
+    text_of("(if 2 5 6)", if_2, sizeof if_2);
+    text_of("(rep x 1 (+ x (rep y x (+ x y))))", nested, sizeof nested);
+    text_of("(if (sense 0) 5 (/ 1 0))", spared, sizeof spared);
+    text_of("(rep x (/ 6 (sense 1)) (+ x 1))", initial_again, sizeof initial_again);
+    text_of(MIN_TEXT "(fold-hood* min inf (+ (nbr-range) (* 25 (nbr-lag))))", nearest, sizeof nearest);
+    text_of("(fold-hood* + 0 (/ 6 (nbr-lag)))", over_lag, sizeof over_lag);
+    TEXT_OF("(def f()1)2", CONST(1), DEFINITION(0, 0), CONST(2), MAIN(1));
+    // A definition and a parameter of one name; a rep within a rep of that name, whose initial part reads the outer one.
+    TEXT_OF("(def f (f) f) (f 1)", PARAMETER(0), DEFINITION(1, 0), CONST(1), CALL1(0, 1), MAIN(2));
+    TEXT_OF("(rep x 0 (+ (rep x x x) x))", CONST(0), VARIABLE(0), VARIABLE(1), REP(1, 1, 2), VARIABLE(0), OPERATOR(PLUS, 3, 4), REP(0, 0, 5),
+            MAIN(6));
+    // The outer nbr has the lower slot, and its node comes later.
+    TEXT_OF("(fold-hood* + 0 (nbr (fold-hood* - 1 (nbr 2))))", CONST(0), CONST(1), CONST(2), NBR(2, 2), FOLD(MINUS, 1, 3), NBR(1, 4),
+            FOLD(PLUS, 0, 5), MAIN(6));
+    TEXT_OF("(def share (a-1 b* c9 inf-) b*) (share 1 2 3 4)", PARAMETER(1), DEFINITION(4, 0), CONST(1), CONST(2), CONST(3), CONST(4),
+            CALL4(0, 1, 2, 3, 4), MAIN(5));
+}
+// A text that is one number.
+static void constant_of(const char *text, int32_t n) {
+    const uint8_t table[] = {CONST(n), MAIN(0)};
+    text_of(text, table, sizeof table);
+}
+static void words_of_texts(void) {
+    static const char *const signs[] = {"+", "-", "*", "/", "<", ">", ">=", "==", "!="};
+    for (uint8_t o = 0; o < 9; o++) {
+        const uint8_t table[] = {CONST(1), CONST(2), 1, 0, 4, CUDDYSTOVE_OPERATOR, o, 0, 1, MAIN(2)};
+        char text[] = "(      1 2)";
+        memcpy(text + 1, signs[o], strlen(signs[o]));
+        text_of(text, table, sizeof table);
+    }
+    constant_of("0", 0);
+    constant_of("-0", 0);
+    constant_of("-007", -7);
+    constant_of("inf", CUDDYSTOVE_INF);
+    constant_of("2147483647", CUDDYSTOVE_INF);
+    constant_of("-2147483647", CUDDYSTOVE_FLOOR);
+    constant_of("000000000002147483646", CUDDYSTOVE_INF - 1);
+}
+// 19, with the length of the longest beginning that is shared with a text of the notation.
+static void outside_texts(void) {
+    static const struct { const char *text; size_t place; } outside[] = {
+        {"", 0}, {" ", 1}, {"(def f () 1)", 12}, {"(def f () 1) ", 13}, {"1 2", 2}, {"1)", 1}, {"(f) 1", 4}, {"1 (def f () 1)", 2},
+        {"(+ (def f () 1) 2)", 7}, {"(def f (a b c d e) 1) 2", 16}, {"(def f 1) 1", 7}, {"(def", 4}, {"(def f () 1 2) 3", 12},
+        {"(def + (a b) a) 1", 5}, {"(def 1 () 1) 1", 5}, {"(rep 1 0 0)", 5}, {"if", 2}, {"if ", 2}, {"(f if)", 5}, {"(inf)", 4},
+        {"nbr-range", 9}, {"+", 0}, {"(sense +)", 7}, {"(+ 1)", 4}, {"(+ 1 2 3)", 7}, {"(if 1 2)", 7}, {"(sense)", 6}, {"(sense 1 2)", 9},
+        {"(nbr-range 1)", 11}, {"(rep x 0)", 8}, {"(fold-hood* if 1 2)", 14}, {"(fold-hood* 1 1 2)", 12}, {"(<= 1 2)", 2}, {"(-1 2)", 2},
+        {"(= 1 2)", 2}, {"()", 1}, {"((f))", 1}, {")", 0}, {"2147483648", 9}, {"002147483648", 11}, {"-2147483648", 10}, {"-inf", 1},
+        {"1x", 1}, {"abcdefghijklmnopq", 16}, {"(f abcdefghijklmnopq)", 19}, {"X", 0}, {"xX", 1}, {"*x", 0}, {"(+ 1\t2)", 4}, {"\t1", 0},
+        {"1;2", 1}, {"1\xc3\xa9", 1}, {"\xff", 0},
+        // 19 before 20
+        {"(def if () y) (+ x)", 18},
+    };
+    for (size_t i = 0; i < sizeof outside / sizeof outside[0]; i++) refused_text(outside[i].text, 19, outside[i].place);
+    refused_bytes("\0", 1, 19, 0);
+    refused_bytes("1\0", 2, 19, 1);
+}
+// 20, which has no place and comes before the table's refusals; then these, of fields (1 to 3), nodes (7, 9) and none (10).
+static void refused_texts(void) {
+    static const char *const names[] = {
+        "x", "floor", "(f)", "(def f () (f)) 1", "(def f () (g)) (def g () 1) (f)", "(def f () 1) f", "(def f (g) (g)) 1", "(rep x x 1)",
+        "(+ (rep x 0 x) x)", "(def f (a) 1) a", "(fold-hood* f 0 (nbr 1))", "(def f () 1) (def f () 2) (f)", "(def f (a a) a) (f 1 2)",
+        "(def if () 1) 1", "(def f (inf) 1) (f 1)", "(rep nbr-lag 0 1)", "(nbr x)", "(def f (a) (f)) (f 1 2)",
+    };
+    static char text[4096];
+    size_t length = 0;
+    for (size_t i = 0; i < sizeof names / sizeof names[0]; i++) refused_text(names[i], 20, 0);
+    refused_text("(def f (a) a) (f 1 2)", 1, 4);
+    refused_text("(def f (a) a) (f)", 1, 2);
+    refused_text("(nbr-range)", 7, 0);
+    refused_text("(nbr 1)", 7, 1);
+    refused_text("(def f () (nbr-lag)) 1", 7, 0);
+    refused_text("(def f () (rep x 0 x)) (+ (f) (f))", 9, 4);
+    refused_text("(def f (a) a) (fold-hood* f 0 (nbr 1))", 9, 4);
+#define ADD(words) (memcpy(text + length, words, sizeof(words)), length += sizeof(words) - 1)
+    // 257 nodes.
+    for (int n = 0; n < 256; n++) ADD("(sense ");
+    ADD("1");
+    for (int n = 0; n < 256; n++) ADD(")");
+    refused_text(text, 2, 256);
+    // Sixteen slots, of which the innermost, the sixteenth, is in the third field; seventeen variables, the innermost read first.
+    length = 0;
+    ADD("(fold-hood* + 0 ");
+    for (int n = 0; n < 16; n++) ADD("(nbr ");
+    ADD("1");
+    for (int n = 0; n < 17; n++) ADD(")");
+    refused_text(text, 3, 2);
+    // 257 slots: the innermost is no slot 1 again, as by its low byte.
+    length = 0;
+    ADD("(fold-hood* + 0 ");
+    for (int n = 0; n < 257; n++) ADD("(nbr ");
+    ADD("1");
+    for (int n = 0; n < 258; n++) ADD(")");
+    refused_text(text, 3, 2);
+    length = 0;
+    for (int n = 0; n < 17; n++) ADD("(rep x 0 ");
+    ADD("x");
+    for (int n = 0; n < 17; n++) ADD(")");
+    refused_text(text, 3, 17);
+    // 33 definitions.
+    length = 0;
+    for (int n = 0; n < 33; n++) length += (size_t)snprintf(text + length, sizeof text - length, "(def f%d()1)", n);
+    ADD("1");
+    refused_text(text, 2, 65);
+    // Nineteen definitions that each call the one before twice.
+    length = 0;
+    ADD("(def a () 1)");
+    for (char d = 'b'; d <= 's'; d++) {
+        ADD("(def ? () (+ (!) (!)))");
+        for (size_t i = length - 22; i < length; i++) text[i] = text[i] == '?' ? d : text[i] == '!' ? (char)(d - 1) : text[i];
+    }
+    ADD("(s)");
+    refused_text(text, 10, 0);
+}
+
 // Two orders of one shift: all ends alike. And one side refused alone.
 static void orders(void) {
     static const uint8_t one[] = {FIRE(1), FIRE(2), FIRE(1), DELIVER(3, 3)};
@@ -1271,6 +1448,10 @@ int main(void) {
     lag_weighs();
     lag_in_branches();
     operators();
+    texts();
+    words_of_texts();
+    outside_texts();
+    refused_texts();
     orders();
     say_number(passed);
     say(" passed, ");

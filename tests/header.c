@@ -1,4 +1,4 @@
-// The numbers of include/cuddystove.h against 01's, written out again; built as C11 and as C++11, linked and run. Its functions are
+// The numbers of include/cuddystove.h against those of 01 and 02, written out again; built as C11 and as C++11, linked and run. Its functions are
 // tried by tests/inline.c.
 #include "cuddystove.h"
 #include "bytes.h"
@@ -23,13 +23,14 @@ static_assert(CUDDYSTOVE_FIRST_SENSORS == 16 && CUDDYSTOVE_FIRST_HEARD == 17, "i
 static_assert(CUDDYSTOVE_FIRST_PENDING == 273 && CUDDYSTOVE_FIRST_AGE == 529, "further in a block");
 static_assert(CUDDYSTOVE_FIRST_AGE + CUDDYSTOVE_DEVICES == CUDDYSTOVE_BLOCK, "the ages end a block");
 static_assert(CUDDYSTOVE_NO_CELL == 0x1fffffff80000000 && CUDDYSTOVE_LONGEST_EVENT == 9 && CUDDYSTOVE_LONGEST_MESSAGE == 64, "for hosts");
-static_assert(CUDDYSTOVE_VERSION_NUMBER == 300, "version");
+static_assert(CUDDYSTOVE_VERSION_NUMBER == 400, "version");
 
 static_assert(CUDDYSTOVE_DONE == 0 && CUDDYSTOVE_BAD_FIELD == 1 && CUDDYSTOVE_TOO_MANY == 2 && CUDDYSTOVE_OUT_OF_RANGE == 3 &&
                   CUDDYSTOVE_NOT_GIVEN == 4 && CUDDYSTOVE_TAKEN == 5 && CUDDYSTOVE_BAD_END == 6 && CUDDYSTOVE_WRONG_SORT == 7 &&
                   CUDDYSTOVE_MISREAD == 8 && CUDDYSTOVE_MISUSED == 9 && CUDDYSTOVE_TOO_COSTLY == 10 && CUDDYSTOVE_UNSOUND == 11 &&
                   CUDDYSTOVE_BAD_LIST == 12 && CUDDYSTOVE_SHORT_SPACE == 13 && CUDDYSTOVE_BAD_ITEM == 14 &&
-                  CUDDYSTOVE_ITSELF == 15 && CUDDYSTOVE_NOTHING_PENDING == 16 && CUDDYSTOVE_DIVIDED_BY_0 == 17,
+                  CUDDYSTOVE_ITSELF == 15 && CUDDYSTOVE_NOTHING_PENDING == 16 && CUDDYSTOVE_DIVIDED_BY_0 == 17 &&
+                  CUDDYSTOVE_BAD_FILE == 18 && CUDDYSTOVE_OUTSIDE == 19 && CUDDYSTOVE_BAD_NAME == 20,
               "refusals");
 static_assert(CUDDYSTOVE_TAG_NODE == 1 && CUDDYSTOVE_TAG_DEFINITION == 2 && CUDDYSTOVE_TAG_MAIN == 3 && CUDDYSTOVE_TAG_FIRE == 0x10 &&
                   CUDDYSTOVE_TAG_DELIVER == 0x11 && CUDDYSTOVE_TAG_LOSE == 0x12 && CUDDYSTOVE_TAG_LINK == 0x13 &&
@@ -57,6 +58,17 @@ static const int32_t answers[] = {0, 0, 15, 0, 0, 1, 16, 0};
 static int32_t network[2][CUDDYSTOVE_CELLS];
 static int32_t space[2][8];
 
+// Program (i) as text, its characters as the bytes that both languages give them.
+static int reads_text(void) {
+    static const uint8_t text[] = {'(', 'r', 'e', 'p', ' ', 'x', ' ', '0', ' ', '(', '+', ' ', 'x', ' ', '1', ')', ')'};
+    uint8_t table[sizeof program];
+    const struct cuddystove_verdict v = cuddystove_read_text(text, sizeof text, table, sizeof table);
+    for (size_t i = 0; i < sizeof program; i++) {
+        if (v.number != 0 || table[i] != program[i]) return 0;
+    }
+    return v.place == sizeof program;
+}
+
 // An empty slice as C and C++ hosts have it: a null pointer, here a vector's.
 static int without_events(void) {
 #ifdef __cplusplus
@@ -64,10 +76,11 @@ static int without_events(void) {
     std::vector<int32_t> nothing;
     if (none.data() != nullptr || nothing.data() != nullptr) return 0; // else this shows nothing
     return cuddystove_run(program, sizeof program, network[0], CUDDYSTOVE_CELLS, none.data(), none.size(), nothing.data(), 0).number == 0 &&
-           cuddystove_check(none.data(), none.size()).number == CUDDYSTOVE_BAD_END;
+           cuddystove_check(none.data(), none.size()).number == CUDDYSTOVE_BAD_END &&
+           cuddystove_read_text(none.data(), none.size(), none.data(), none.size()).number == CUDDYSTOVE_OUTSIDE;
 #else
     return cuddystove_run(program, sizeof program, network[0], CUDDYSTOVE_CELLS, NULL, 0, NULL, 0).number == 0 &&
-           cuddystove_check(NULL, 0).number == CUDDYSTOVE_BAD_END;
+           cuddystove_check(NULL, 0).number == CUDDYSTOVE_BAD_END && cuddystove_read_text(NULL, 0, NULL, 0).number == CUDDYSTOVE_OUTSIDE;
 #endif
 }
 
@@ -90,5 +103,6 @@ int main(void) {
     if (cuddystove_event(program, sizeof program, network[0], CUDDYSTOVE_CELLS, same, 4, space[0], 8).number != 0) return 6;
     if (cuddystove_run(program, sizeof program, network[1], CUDDYSTOVE_CELLS, same, 4, space[1], 8).number != 0) return 7;
     if (!without_events()) return 9;
+    if (!reads_text()) return 10;
     return space[0][1] == 2 && space[1][1] == 2 ? 0 : 8;
 }

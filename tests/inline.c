@@ -355,14 +355,14 @@ static void between_tablets(void) {
 
 static const char *const names[] = {
     "done",    "bad field",          "too many",   "out of range",    "not given", "taken",              "bad end",  "wrong sort",
-    "misread", "misused definition", "too costly", "unsound network", "bad list",  "short answer space", "bad item", "to itself",
-    "nothing pending", "divided by 0",
+    "misread", "misused definition", "too costly", "unsound network", "bad list",  "short space",        "bad item", "to itself",
+    "nothing pending", "divided by 0", "bad file", "outside the notation", "bad name",
 };
 static void words(void) {
     int64_t n, m;
     size_t i;
-    for (n = 0; n <= 17; n++) judge("the name", strcmp(cuddystove_name(n), names[n]) == 0);
-    for (n = -1; n <= 18; n++) {
+    for (n = 0; n <= 20; n++) judge("the name", strcmp(cuddystove_name(n), names[n]) == 0);
+    for (n = -1; n <= 21; n++) {
         const char *name = cuddystove_name(n), *sentence = cuddystove_sentence(n);
         const size_t length = strlen(sentence);
         judge("a name and a sentence", name[0] != 0 && length > 2 && sentence[length - 1] == '.');
@@ -372,11 +372,12 @@ static void words(void) {
     }
     for (i = 0; i < FAR_OFF; i++) {
         judge("unknown", strcmp(cuddystove_name(far_off[i]), "unknown refusal") == 0 && strcmp(cuddystove_counted(far_off[i], 1), "") == 0 &&
-                             strcmp(cuddystove_sentence(far_off[i]), cuddystove_sentence(18)) == 0);
+                             strcmp(cuddystove_sentence(far_off[i]), cuddystove_sentence(21)) == 0);
     }
-    judge("18 and -1", strcmp(cuddystove_name(18), "unknown refusal") == 0 && strcmp(cuddystove_name(-1), "unknown refusal") == 0);
-    for (n = -1; n <= 18; n++) {
-        const char *expected = n >= 1 && n <= 5 ? "field of the program" : n >= 7 && n <= 9 ? "node" : n == 11 ? "cell" : n == 12 ? "event" : "";
+    judge("21 and -1", strcmp(cuddystove_name(21), "unknown refusal") == 0 && strcmp(cuddystove_name(-1), "unknown refusal") == 0);
+    for (n = -1; n <= 21; n++) {
+        const char *expected = n >= 1 && n <= 5 ? "field of the program" : n >= 7 && n <= 9 ? "node" : n == 11 ? "cell" : n == 12 ? "event" :
+                               n == 19 ? "byte of the text" : "";
         judge("what a place counts", strcmp(cuddystove_counted(n, 3), expected) == 0);
         judge("what place 0 counts", strcmp(cuddystove_counted(n, 0), n == 11 ? "" : expected) == 0);
     }

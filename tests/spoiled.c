@@ -6,6 +6,14 @@
 
 enum spoil {
     READS_BEYOND_PROGRAM = 1, // check
+    READS_BEYOND_TEXT,        // read_text
+    WRITES_THE_TEXT,          // read_text: the byte that was there
+    WRITES_BEYOND_TABLE,      // read_text
+    PLACE_0_OF_A_TEXT,        // read_text: of one that is accepted
+    NO_TABLE,                 // read_text: number and place are right
+    CLEARS_THE_REST,          // read_text: of the slice, behind the table
+    WRITES_ALL_THE_SAME,      // read_text: a byte, of a text that is refused
+    NO_ROOM_FIRST,            // read_text: 13 before all else
     LEAVES_A_CELL,            // fresh: the last
     READS_BEFORE_LIST,        // event
     NEVER_STORES,             // event: the answers are right
@@ -23,12 +31,14 @@ enum spoil {
     READS_UNWRITTEN           // run: only valgrind sees it
 };
 #define PROGRAM const uint8_t *program, size_t program_length
+#define TEXT const uint8_t *text, size_t text_length, uint8_t *table, size_t table_length
 #define REST int32_t *network, size_t network_length, const uint8_t *list, size_t list_length, int32_t *space, size_t space_length
 #define TWICE                                                                                                                    \
     int32_t *network1, size_t network1_length, int32_t *network2, size_t network2_length, const uint8_t *list1,                \
         size_t list1_length, const uint8_t *list2, size_t list2_length, int32_t *space1, size_t space1_length, int32_t *space2, \
         size_t space2_length
 struct cuddystove_verdict __real_cuddystove_check(PROGRAM), __wrap_cuddystove_check(PROGRAM);
+struct cuddystove_verdict __real_cuddystove_read_text(TEXT), __wrap_cuddystove_read_text(TEXT);
 struct cuddystove_verdict __real_cuddystove_fresh(int32_t *, size_t), __wrap_cuddystove_fresh(int32_t *, size_t);
 struct cuddystove_verdict __real_cuddystove_event(PROGRAM, REST), __wrap_cuddystove_event(PROGRAM, REST);
 struct cuddystove_verdict __real_cuddystove_run(PROGRAM, REST), __wrap_cuddystove_run(PROGRAM, REST);
@@ -40,6 +50,23 @@ static void look(const volatile uint8_t *at) { seen += *at; }
 struct cuddystove_verdict __wrap_cuddystove_check(PROGRAM) {
     if (SPOIL == READS_BEYOND_PROGRAM) look(program + program_length);
     return __real_cuddystove_check(program, program_length);
+}
+
+struct cuddystove_verdict __wrap_cuddystove_read_text(TEXT) {
+    static uint8_t kept[4096];
+    const size_t whole = table_length < sizeof kept ? table_length : sizeof kept;
+    struct cuddystove_verdict v;
+    if (whole > 0) memcpy(kept, table, whole);
+    if (SPOIL == READS_BEYOND_TEXT) look(text + text_length);
+    if (SPOIL == WRITES_THE_TEXT && text_length > 0) *(volatile uint8_t *)text = text[0];
+    v = __real_cuddystove_read_text(text, text_length, table, table_length);
+    if (SPOIL == WRITES_BEYOND_TABLE) ((volatile uint8_t *)table)[table_length] = 0;
+    if (SPOIL == NO_TABLE && whole > 0) memcpy(table, kept, whole);
+    if (SPOIL == CLEARS_THE_REST && v.number == 0 && v.place < table_length) memset(table + v.place, 0, table_length - v.place);
+    if (SPOIL == PLACE_0_OF_A_TEXT && v.number == 0) v.place = 0;
+    if (SPOIL == WRITES_ALL_THE_SAME && v.number != 0 && table_length > 0) table[0] = 0;
+    if (SPOIL == NO_ROOM_FIRST && table_length == 0) v.number = CUDDYSTOVE_SHORT_SPACE, v.place = 0;
+    return v;
 }
 
 struct cuddystove_verdict __wrap_cuddystove_fresh(int32_t *network, size_t length) {

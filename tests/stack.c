@@ -15,7 +15,7 @@
 #ifndef CALL_LIMIT
 #define CALL_LIMIT (256 << 10)
 #endif
-enum { STACK = 1 << 20, PATTERN = 0xa5 };
+enum { STACK = 1 << 20, PATTERN = 0xa5, LONG = 1000000 };
 
 static uint8_t program[8192];
 static size_t length;
@@ -24,6 +24,8 @@ static struct cuddystove_verdict verdict, other_verdict;
 static int32_t network[CUDDYSTOVE_CELLS], other_network[CUDDYSTOVE_CELLS];
 static int32_t answer[2], other_answer[2];
 static const uint8_t fire[] = {FIRE(1)};
+static uint8_t text[LONG], table[4096];
+static size_t text_length;
 static size_t idle;
 static int passed, failed;
 
@@ -177,11 +179,46 @@ static void tower(int count) {
     end(NODE(CUDDYSTOVE_CALL, count - 1));
 }
 
+// ---- Texts
+
+// To the end of the text, so many times.
+static void says(int times, const char *words) {
+    while (times-- > 0) {
+        const size_t more = strlen(words);
+        if (more > LONG - text_length) abort();
+        memcpy(text + text_length, words, more);
+        text_length += more;
+    }
+}
+// A text of three parts, the first and last so many times.
+static void nests(int times, const char *first, const char *middle, const char *last) {
+    text_length = 0;
+    says(times, first);
+    says(1, middle);
+    says(times, last);
+}
+// A call through that many definitions, each of which calls the one before.
+static void definitions_of(int count) {
+    char words[40];
+    text_length = 0;
+    says(1, "(def f0()1)");
+    for (int d = 1; d < count; d++) {
+        snprintf(words, sizeof words, "(def f%d()(f%d))", d, d - 1);
+        says(1, words);
+    }
+    snprintf(words, sizeof words, "(f%d)", count - 1);
+    says(1, words);
+}
+
 // ---- Calls
 
 static void *nothing(void *unused) { return unused; }
 static void *check(void *unused) {
     verdict = cuddystove_check(program, length);
+    return unused;
+}
+static void *read_text(void *unused) {
+    verdict = cuddystove_read_text(text, text_length, table, sizeof table);
     return unused;
 }
 static void *event(void *unused) {
@@ -244,14 +281,14 @@ static size_t used(void *(*work)(void *)) {
 // Whether the call did what it should, each time.
 static int as_expected(void *(*work)(void *), uint32_t number, size_t place, int32_t value) {
     if (verdict.number != number || verdict.place != place) return 0;
-    if (work == check || work == fresh) return 1;
+    if (work == check || work == read_text || work == fresh) return 1;
     if (work == run_both && (other_verdict.number != number || other_verdict.place != place)) return 0;
     if (work == run_both && (other_answer[0] != 0 || other_answer[1] != value)) return 0;
     return answer[0] == 0 && answer[1] == value;
 }
 
 static void expect(const char *what, void *(*work)(void *), uint32_t number, size_t place, int32_t value) {
-    size_t stack = used(work) - idle, limit = work == check ? CHECK_LIMIT : CALL_LIMIT;
+    size_t stack = used(work) - idle, limit = work == check || work == read_text ? CHECK_LIMIT : CALL_LIMIT;
     int good = as_expected(work, number, place, value) && stack + idle <= limit;
     if (good) {
         pthread_attr_t how;
@@ -261,7 +298,7 @@ static void expect(const char *what, void *(*work)(void *), uint32_t number, siz
         good = as_expected(work, number, place, value);
     }
     printf("%s: %u %zu", what, verdict.number, verdict.place);
-    if (work != check && work != fresh) printf(", answer %d %d", answer[0], answer[1]);
+    if (work != check && work != read_text && work != fresh) printf(", answer %d %d", answer[0], answer[1]);
     printf(", %zu bytes of stack%s\n", stack, good ? "" : ": FAILED");
     if (good) passed++;
     else failed++;
@@ -279,6 +316,32 @@ static void over_fields(const char *of, int kind, int32_t each) {
     expect("event, 110 sums of fields in a fold, below calls through 32 definitions", event, 0, 0, 15 * (each + 110));
     expect("run, the same", run, 0, 0, 15 * (each + 110));
     expect("run_both, the same", run_both, 0, 0, 15 * (each + 110));
+}
+
+// Texts of 1 MB, deep and flat, and those of tables with as many nodes as there may be.
+static void over_texts(void) {
+    nests(LONG / 2, "(f", "", "");
+    expect("read_text, 500,000 brackets that call, none closed", read_text, 19, LONG, 0);
+    nests(LONG / 8, "(sense ", "", ")");
+    expect("read_text, 125,000 senses around nothing", read_text, 19, 7 * (LONG / 8), 0);
+    nests(1, "(def f()1)(f", "", "");
+    says((LONG - 13) / 2, " 1");
+    says(1, ")");
+    expect("read_text, a call with 499,993 operands", read_text, 2, 257, 0);
+    nests(LONG - 1, " ", "1", "");
+    expect("read_text, 999,999 blanks and a number", read_text, 0, 12, 0);
+    nests(LONG, "a", "", "");
+    expect("read_text, a word of 1,000,000 letters", read_text, 19, 16, 0);
+    nests(255, "(sense ", "1", ")");
+    expect("read_text, 255 senses", read_text, 0, 8 + 255 * 5 + 4, 0);
+    nests(127, "(+ 1 ", "1", ")");
+    expect("read_text, 127 sums, each the right side of the next", read_text, 0, 128 * 8 + 127 * 7 + 4, 0);
+    nests(127, "(+ ", "1", " 1)");
+    expect("read_text, 127 sums, each the left side of the next", read_text, 0, 128 * 8 + 127 * 7 + 4, 0);
+    nests(128, "(+ 1 ", "1", ")");
+    expect("read_text, 128 sums: 257 nodes", read_text, 2, 256, 0);
+    definitions_of(32);
+    expect("read_text, calls through 32 definitions", read_text, 0, 8 + 5 + 31 * (5 + 5) + 5 + 4, 0);
 }
 
 int main(void) {
@@ -326,6 +389,7 @@ int main(void) {
     over_fields("nbr-lag", CUDDYSTOVE_NBR_LAG, CUDDYSTOVE_OLDEST);
     folds();
     expect("event, 15 folds, each in the nbr of the next, of 6 sums each", event, 0, 0, 1);
+    over_texts();
     expect("fresh", fresh, 0, 0, 0);
     printf("%d passed, %d failed\n", passed, failed);
     return failed != 0;

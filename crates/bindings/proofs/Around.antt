@@ -1,15 +1,15 @@
--- the names that are bound by reps around a place of a tree, as the scan outwards finds them (T5b).
+-- the names that are bound by reps around a place of a tree, as the scan outwards finds them.
 use mathlib.Core.Path.{_≡_, refl, sym, ap, _∙_}
-use mathlib.Core.Bool.{Bool, true, false, cond, _&&_, and-false}
+use mathlib.Core.Bool.{true, false, cond, and-false}
 use mathlib.Core.List.{List, [], _∷_, _++_, append-nil, reverse, reverseAux, reverseAux-append}
 use mathlib.Core.Option.{Option, none, some}
 use Prim.Native.Nat.{ℕ, zero, suc}
-use lib.Dec.{eqb}
 use Rattle.notation.specs.Words.{Word, sameWord, Head, headOf, theDef}
 use Rattle.notation.specs.Grammar.{Token, opening, closing, word, Tree, leaf, form, Items, nil, expr, bare, Def, tokens, itemTokens, nameTokens, Fine}
 use Rattle.translation.specs.Names.{isRep, binding}
-use Rattle.bindings.specs.Scan.{wordsIn, parametersIn, repAround}
-use Rattle.bindings.proofs.Codes.{repCode, head-facts}
+use Rattle.token_scans.specs.Scan.{wordsIn, parametersIn}
+use Rattle.rep_around.specs.Around.{repAround}
+use Rattle.token_scans.proofs.Codes.{repCode, head-facts}
 use Rattle.bindings.proofs.Trees.{Each, by-trees, each-of, Shape, plainly, folding, repeating, shape-of}
 use Rattle.bindings.proofs.Modes.{modesAfter, modes-append, words-append, Passed, leadTokens, defFront, lead-front, reps-passed, front-passed}
 

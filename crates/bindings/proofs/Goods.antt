@@ -1,32 +1,31 @@
 -- the tests of one word, and the turns of the pass over a text's names.
 use mathlib.Core.Path.{_≡_, refl, sym, ap, _∙_}
 use mathlib.Core.Bool.{Bool, true, false, not, cond, _&&_, _||_}
-use mathlib.Core.List.{List, [], _∷_, _++_, reverse, append-assoc, append-cancel-left}
-use mathlib.Core.Logic.{inl, inr}
+use mathlib.Core.List.{List, [], _∷_, _++_, reverse}
 use mathlib.Core.Option.{none, some}
 use Prim.Native.Nat.{ℕ, zero, suc, _+_, _-_, _≤_, _<_}
-use native.Mathlib.Numerals.{add-one, sub-one}
 use native.Mathlib.Omega.{arith}
 use lib.Dec.{eqb}
 use lib.ListN.{length, take, drop}
-use lib.Seq.{take-take, drop-length}
+use lib.Seq.{drop-length}
 use borrow.Author.Tests.{eq-eqb, ne-eqb}
 use Rattle.notation.specs.Words.{Word, between, oneOf, ownName}
-use Rattle.notation.specs.Grammar.{Token, opening, closing, word}
-use Rattle.notation.specs.Text.{Apart}
+use Rattle.notation.specs.Grammar.{Token}
 use Rattle.notation.proofs.Lexing.{lex}
 use Rattle.translation.specs.Names.{known}
 use Rattle.lexemes.specs.declared.Lexeme.{Lexeme}
-use Rattle.lexemes.specs.Lexeme.{nextLexeme, tokenBy, tokenOf, Parted}
-use Rattle.lexemes.proofs.Laws.{parted-first, parted-splits, next-within, next-end, next-token, next-before, next-parted, next-parted-end, next-prefix}
-use Rattle.vocabulary.specs.Codes.{codeOf}
-use Rattle.vocabulary.proofs.Between.{between-empty}
+use Rattle.lexemes.specs.Lexeme.{nextLexeme, tokenBy, tokenOf, depthBy, depthAfter}
+use Rattle.lexemes.proofs.Laws.{next-end}
+use Rattle.vocabulary.specs.Codes.{codeOf, tokenCode}
 use Rattle.vocabulary.proofs.Laws.{code-number, code-own}
-use Rattle.bindings.specs.declared.Found.{Found}
-use Rattle.bindings.specs.Scan.{tokenCode, modeAfter, definitionsIn, parametersIn, repAround}
-use Rattle.bindings.specs.Good.{isSome, wordGood, tokenGood, depthBy, depthAfter, namesPass}
-use Rattle.bindings.specs.Sought.{Among, Outward}
-use Rattle.bindings.proofs.Cuts.{Cut, cut-first, cut-within, cut-less, cut-begun, cut-top, cut-next, next-tokens, new-form, same-form, one-more}
+use Rattle.token_scans.specs.declared.Found.{Found}
+use Rattle.token_scans.specs.Scan.{modeAfter, definitionsIn, parametersIn}
+use Rattle.rep_around.specs.Around.{repAround}
+use Rattle.bindings.specs.Good.{isSome, wordGood, tokenGood, namesPass}
+use Rattle.token_scans.specs.Sought.{Among}
+use Rattle.rep_around.specs.Outward.{Outward}
+use Rattle.lexemes.proofs.Depth.{depth-kind, depth-most}
+use Rattle.token_scans.proofs.Cuts.{Cut, cut-first, cut-within, cut-less, cut-begun, cut-top, cut-next, next-tokens, new-form, same-form, one-more}
 
 -- ---- one word: k is its code
 module _ (w : Word) (k : ℕ) (e : k ≡ codeOf w) where
@@ -62,25 +61,6 @@ module _ (w : Word) (k : ℕ) (e : k ≡ codeOf w) where
       pub parameter-word : f .yes ≡ false → (p : Found) → Among w (parametersIn before) p → p .yes ≡ wordGood [] before 0 w
       unfolding wordGood
       parameter-word h p a = rw (code-number w, ← e, n, outward, h) (a .yes)
-
-depth-kind : (d k : ℕ) (w : Word) → depthAfter d (tokenBy k w) ≡ depthBy d k
-unfolding depthBy
-depth-kind d k w = go (eqb k 1) (eqb k 2) d
-  where
-    go : (o c : Bool) (d : ℕ) → depthAfter d (cond o opening (cond c closing (word w))) ≡ cond o (d + 1) (cond c (d - 1) d)
-    go true c d = sym (add-one d)
-    go false true zero = refl
-    go false true (suc d) = sym (sub-one (suc d))
-    go false false d = refl
-
-depth-most : (d k : ℕ) → depthBy d k ≤ d + 1
-unfolding depthBy
-depth-most d k = go (eqb k 1) (eqb k 2)
-  where
-    go : (o c : Bool) → cond o (d + 1) (cond c (d - 1) d) ≤ d + 1
-    go true c = omega arith
-    go false true = omega arith
-    go false false = omega arith
 
 -- one turn of the pass, whether a form begins or goes on
 turn-by : (d m : ℕ) (earlier before earlier′ before′ more : List Token) (t : Token) (ts : List Token) → (d ≡ 0 → (earlier′ ≡ earlier ++ before) × (before′ ≡ []))

@@ -1,13 +1,7 @@
-pub mod Codes
 pub mod Trees
 pub mod Modes
 pub mod Around
 pub mod Names
 pub mod Meanings
-pub mod Parts
-pub mod Hits
-pub mod Walks
-pub mod Cuts
 pub mod Goods
-pub mod Counts
 pub mod Shown

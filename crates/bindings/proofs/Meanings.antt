@@ -1,23 +1,17 @@
 -- what the scope of a tree has for a name is what the tokens before it say.
-use mathlib.Core.Path.{_≡_, refl, sym, ap, _∙_}
+use mathlib.Core.Path.{_≡_, refl, ap, _∙_}
 use mathlib.Core.Bool.{Bool, true, false, cond, _||_}
 use mathlib.Core.List.{List, [], _∷_, _++_, reverse, reverse-reverse}
 use mathlib.Core.Option.{some}
-use Prim.Native.Nat.{ℕ, suc, _+_, _-_, _≤_}
+use Prim.Native.Nat.{ℕ, suc, _+_, _-_}
 use native.Mathlib.Nat.{zero-add}
 use native.Mathlib.Omega.{arith}
-use lib.ListN.{length, take, drop}
-use lib.Seq.{take-take}
-use Rattle.notation.specs.Words.{Word, between, sameWord, oneOf, indexOf, lookup, Head}
+use Rattle.notation.specs.Words.{Word, sameWord, oneOf, indexOf, lookup, Head}
 use Rattle.notation.specs.Grammar.{Token, Items, nil, expr, bare}
-use Rattle.notation.proofs.Lexing.{lex}
 use Rattle.translation.specs.Names.{isRep, binding}
 use Rattle.translation.specs.Numbering.{Meaning, parameter, variable, Scope, parameters}
-use Rattle.vocabulary.proofs.Between.{length-between}
-use Rattle.bindings.specs.declared.Found.{Found}
-use Rattle.bindings.specs.Scan.{parametersIn, headsIn, repsIn}
-use Rattle.bindings.specs.Meaning.{byRep, meaningAt}
-use Rattle.bindings.specs.Sought.{Among, Outward}
+use Rattle.token_scans.specs.Scan.{headsIn, repsIn}
+use Rattle.rep_around.specs.Meaning.{byRep, meaningAt}
 use Rattle.bindings.proofs.Modes.{modesAfter, heads-append}
 use Rattle.bindings.proofs.Around.{Trail, found, Seen}
 use Rattle.bindings.proofs.Names.{same-sym}
@@ -72,24 +66,3 @@ later-meanings base ps tr before k (bare x is) = go (isRep k)
 -- heads are counted on
 pub heads-on : (f : ℕ → Bool) (before ts : List Token) → modesAfter 0 before ≡ 0 → headsIn f 0 (before ++ ts) ≡ headsIn f 0 before + headsIn f 0 ts
 heads-on f before ts m = rw m at (heads-append f 0 before ts)
-
--- ---- what the code answers: f of the reps around, p of the parameters
-module _ (s : List ℕ) (top a : ℕ) (w : Word) (base : ℕ) (f : Found) (o : Outward w (between top a s) f) where
-  pub index-within : a ≤ length s → f .index ≤ a - top
-  index-within h = rw (length-between top a s h) at (o .within)
-
-  pub meant-variable : a ≤ length s → f .yes ≡ true → (n : ℕ) → n ≡ repsIn (lex (between top (top + f .index) s)) → variable (base + n) ≡ meaningAt base (lex (between top a s)) w
-  unfolding meaningAt
-  meant-variable h y n q =
-      let i = index-within h in
-      let z : top + f .index - top ≡ f .index = omega arith in
-      sym (rw (o .same, y, reverse-reverse (lex (take (f .index) (between top a s))), take-take (f .index) (a - top) (drop top s) i) (rw q (rw z)))
-
-  module _ (y : f .yes ≡ false) (p : Found) (m : Among w (parametersIn (lex (between top a s))) p) where
-    pub meant-parameter : p .yes ≡ true → parameter (p .index) ≡ meaningAt base (lex (between top a s)) w
-    unfolding meaningAt
-    meant-parameter q = sym (rw (o .same, y, sym (m .yes) ∙ q, ← m .index))
-
-    pub meant-nothing : p .yes ≡ false → parameter 0 ≡ meaningAt base (lex (between top a s)) w
-    unfolding meaningAt
-    meant-nothing q = sym (rw (o .same, y, sym (m .yes) ∙ q))

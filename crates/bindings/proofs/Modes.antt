@@ -1,4 +1,4 @@
--- how the modes run over the tokens of fine trees, definitions and programs: where the words stand that name definitions and parameters, and how many heads pass a test (T5a).
+-- how the modes run over the tokens of fine trees, definitions and programs: where the words stand that name definitions and parameters, and how many heads pass a test.
 use mathlib.Core.Path.{_≡_, refl, sym, ap, _∙_}
 use mathlib.Core.Bool.{Bool, true, false, cond}
 use mathlib.Core.List.{List, [], _∷_, _++_, append-assoc, append-nil}
@@ -6,12 +6,13 @@ use Prim.Native.Nat.{ℕ, suc, _+_}
 use native.Mathlib.Omega.{arith}
 use lib.Dec.{eqb}
 use Rattle.notation.specs.Words.{Word, Head, define, headOf, theDef}
-use Rattle.notation.specs.Grammar.{Token, opening, closing, word, Tree, leaf, form, Items, nil, expr, bare, Def, tokens, itemTokens, nameTokens, defTokens, defsTokens, Fine, Exprs, FineDef, FineDefs}
+use Rattle.notation.specs.Grammar.{Token, opening, closing, word, Tree, leaf, form, Items, nil, expr, bare, Def, tokens, itemTokens, nameTokens, defTokens, defsTokens, Fine, Exprs, FineDef}
+use Rattle.notation.specs.Grammar.{FineDefs}
 use Rattle.translation.specs.Names.{isRep}
 use Rattle.translation.specs.Numbering.{Given, hasSlot, entered, after, afterItems}
-use Rattle.vocabulary.specs.Codes.{codeOf}
-use Rattle.bindings.specs.Scan.{tokenCode, modeAfter, wordIn, wordsIn, definitionsIn, headsIn, slotsIn, repsIn}
-use Rattle.bindings.proofs.Codes.{headMode, slotCode, repCode, head-facts}
+use Rattle.vocabulary.specs.Codes.{codeOf, tokenCode}
+use Rattle.token_scans.specs.Scan.{modeAfter, wordIn, wordsIn, definitionsIn, headsIn, slotsIn, repsIn}
+use Rattle.token_scans.proofs.Codes.{headMode, slotCode, repCode, head-facts}
 use Rattle.bindings.proofs.Trees.{Each, by-trees, each-of, Shape, plainly, folding, repeating, shape-of}
 
 -- the mode behind some tokens

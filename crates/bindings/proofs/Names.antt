@@ -1,20 +1,23 @@
--- the pass over the tokens of a fine program says what its tree says of its names (T5c).
+-- the pass over the tokens of a fine program says what its tree says of its names.
 use mathlib.Core.Path.{_≡_, refl, sym, ap, _∙_}
 use mathlib.Core.Bool.{Bool, true, false, not, cond, _&&_, _||_, and-assoc, and-true, or-assoc}
 use mathlib.Core.List.{List, [], _∷_, _++_, append-assoc, append-nil, reverse}
 use mathlib.Core.Option.{some}
-use Prim.Native.Nat.{ℕ, zero, suc}
+use Prim.Native.Nat.{ℕ, zero, suc, _-_}
+use native.Mathlib.Omega.{arith}
 use lib.Dec.{eqb}
 use borrow.Author.Tests.{eqb-true, eqb-false}
 use Rattle.notation.specs.Words.{Word, sameWord, every, indexOf, operator, isLetter, isDigit, nameByte, oneOf, ownName, isName, reserved, isNumber, binder, Head, headOf, theDef}
-use Rattle.notation.specs.Grammar.{Token, opening, closing, word, Tree, leaf, form, Items, nil, expr, bare, Def, Program, tokens, itemTokens, nameTokens, defTokens, defsTokens, programTokens, Fine, Exprs, Names, FineDef, FineDefs, FineProgram}
+use Rattle.notation.specs.Grammar.{Token, opening, closing, word, Tree, leaf, form, Items, nil, expr, bare, Def, Program, tokens, itemTokens, nameTokens, defTokens, defsTokens, programTokens}
+use Rattle.notation.specs.Grammar.{Fine, Exprs, Names, FineDef, FineDefs, FineProgram}
 use Rattle.notation.specs.Text.{Spaced}
 use Rattle.notation.proofs.Lexing.{lex, spaced-exactly}
 use Rattle.translation.specs.Names.{known, isRep, binding, leadGood, resolves, itemsResolve, parametersGood, definitionGood, namesFrom, namesGood}
-use Rattle.vocabulary.specs.Codes.{codeOf}
-use Rattle.bindings.specs.Scan.{tokenCode, modeAfter, wordsIn, definitionsIn, parametersIn, repAround}
+use Rattle.vocabulary.specs.Codes.{codeOf, tokenCode}
+use Rattle.token_scans.specs.Scan.{modeAfter, wordsIn, definitionsIn, parametersIn}
+use Rattle.rep_around.specs.Around.{repAround}
 use Rattle.bindings.specs.Good.{isSome, wordGood, tokenGood, namesPass}
-use Rattle.bindings.proofs.Codes.{headMode, repCode, head-facts}
+use Rattle.token_scans.proofs.Codes.{headMode, repCode, head-facts}
 use Rattle.bindings.proofs.Trees.{Each, by-trees, each-of, Shape, plainly, folding, repeating, shape-of}
 use Rattle.bindings.proofs.Modes.{modesAfter, modes-append, words-append, Passed, treeHeads, leadTokens, no-lead, defFront, def-parts, reps-passed, def-passed}
 use Rattle.bindings.proofs.Around.{Trail, found, Seen, Row, exprCount, form-row, seen-first, seen-body}
@@ -62,7 +65,8 @@ shut-pass : (inner : List Token) → Stays inner → (earlier before : List Toke
     ≡ (within (definitionsIn earlier) before m (inner ++ closing ∷ []) && namesPass earlier (before ++ (inner ++ closing ∷ [])) d (modesAfter m (inner ++ closing ∷ [])) r)
 unfolding within modesAfter namesPass
 shut-pass inner p earlier before d m r =
-    rw (append-assoc inner (closing ∷ []) r, p earlier before d m (closing ∷ r))
+    let e : suc d - 1 ≡ d = omega arith in
+    rw (append-assoc inner (closing ∷ []) r, p earlier before d m (closing ∷ r), e)
     (rw (within-append (definitionsIn earlier) before m inner (closing ∷ []), modes-append m inner (closing ∷ []), append-assoc before inner (closing ∷ []))
     (sym (and-assoc (within (definitionsIn earlier) before m inner) true (namesPass earlier (before ++ (inner ++ closing ∷ [])) d (modeAfter (modesAfter m inner) 23) r))))
 

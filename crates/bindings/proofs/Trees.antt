@@ -7,7 +7,7 @@ use lib.ListN.{replicate}
 use Rattle.notation.specs.Words.{Word, anExpression, aBinder, aFunction, Head, plain, slotted, operation, rep, fold, define, call, nothing, roleOf, headOf, role, binder, function}
 use Rattle.notation.specs.Grammar.{Tree, leaf, form, Items, nil, expr, bare, byRole, Fine, Fits, Exprs}
 use Rattle.translation.specs.Names.{isRep}
-use Rattle.bindings.proofs.Codes.{headMode}
+use Rattle.token_scans.proofs.Codes.{headMode}
 
 abbrev pub Each : (Tree → Type 0) → Items → Type 0
 Each P nil = Unit {0}

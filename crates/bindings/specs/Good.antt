@@ -2,12 +2,15 @@
 use mathlib.Core.Bool.{Bool, true, false, not, cond, _&&_, _||_}
 use mathlib.Core.List.{List, [], _∷_, _++_, reverse}
 use mathlib.Core.Option.{Option, none, some}
-use Prim.Native.Nat.{ℕ, zero, suc, _+_, _-_}
+use Prim.Native.Nat.{ℕ, zero, suc, _+_}
 use lib.Dec.{eqb}
 use Rattle.notation.specs.Words.{Word, oneOf, ownName, isNumber}
 use Rattle.notation.specs.Grammar.{Token, opening, closing, word}
 use Rattle.translation.specs.Names.{known}
-use Rattle.bindings.specs.Scan.{tokenCode, modeAfter, definitionsIn, parametersIn, repAround}
+use Rattle.lexemes.specs.Lexeme.{depthAfter}
+use Rattle.vocabulary.specs.Codes.{tokenCode}
+use Rattle.token_scans.specs.Scan.{modeAfter, definitionsIn, parametersIn}
+use Rattle.rep_around.specs.Around.{repAround}
 
 abbrev pub isSome {ℓ} : {A : Type ℓ} → Option A → Bool
 isSome none = false
@@ -26,16 +29,6 @@ abbrev pub tokenGood : List Word → List Token → ℕ → Token → Bool
 tokenGood ds before m opening = true
 tokenGood ds before m closing = true
 tokenGood ds before m (word w) = wordGood ds before m w
-
--- the brackets that are open behind a token of that kind (1 opens, 2 closes)
-unfoldable pub depthBy : ℕ → ℕ → ℕ
-depthBy d kind = cond (eqb kind 1) (d + 1) (cond (eqb kind 2) (d - 1) d)
-
-abbrev pub depthAfter : ℕ → Token → ℕ
-depthAfter d opening = suc d
-depthAfter zero closing = zero
-depthAfter (suc d) closing = d
-depthAfter d (word w) = d
 
 -- The pass: earlier are the tokens before the top-level form, before those of the form so far, d the brackets that are open, m the mode. Where none is open a form begins
 unfoldable pub namesPass : (earlier before : List Token) (d m : ℕ) → List Token → Bool

@@ -1,4 +1,1 @@
-pub mod Scan
 pub mod Good
-pub mod Meaning
-pub mod Sought

@@ -1,30 +1,16 @@
 -- Bits: of a union, of a power of two, of a number without one of them. Assumes nothing.
 use mathlib.Core.Path.{_≡_, refl, sym, ap, _∙_}
 use mathlib.Core.Logic.{_⊎_, inl, inr}
-use mathlib.Core.Bool.{Bool, true, false, not, cond, _||_, true≢false}
+use mathlib.Core.Bool.{Bool, true, false, not, _||_, true≢false}
 use Prim.Native.Nat.{ℕ, zero, suc, _+_, _-_, _*_, _/_, _%_, _^_, _<_, _≤_}
 use native.Mathlib.Nat.{zero-div}
 use native.Mathlib.Omega.{arith}
 use lib.Dec.{eqb}
 use lib.Bits.{bitAnd, bitOr, or-shr, or-mod, and-shr, and-mod}
 use lib.Pow.{shr-shr}
-use borrow.Author.Tests.{eqb-true, eqb-false, eq-eqb}
+use borrow.Author.Tests.{eqb-true, eq-eqb}
+use Rattle.decide.proofs.Below.{allBelow, all-below}
 use Rattle.bits.specs.Bits.{hasBit, allBits}
-
--- ---- what a test says of each number below n, by computing it
-abbrev pub allBelow : (ℕ → Bool) → ℕ → Bool
-allBelow p zero = true
-allBelow p (suc n) = cond (p n) (allBelow p n) false
-
-pub all-below : (p : ℕ → Bool) (n : ℕ) → allBelow p n ≡ true → (k : ℕ) → k < n → p k ≡ true
-all-below p zero e k h = absurd (omega arith)
-all-below p (suc n) e k h = go (p n) refl e (eqb k n) refl (all-below p n)
-  where
-    go : (b : Bool) → p n ≡ b → cond b (allBelow p n) false ≡ true → (c : Bool) → eqb k n ≡ c
-        → (allBelow p n ≡ true → (j : ℕ) → j < n → p j ≡ true) → p k ≡ true
-    go false q f c g all = absurd (true≢false (sym f))
-    go true q f true g all = ap p (eqb-true k n g) ∙ q
-    go true q f false g all = let d = eqb-false k n g in all f k (omega arith)
 
 -- two tests agree
 abbrev pub same : Bool → Bool → Bool

@@ -3,7 +3,7 @@ use mathlib.Core.Path.{_≡_, refl, sym, ap, subst, _∙_}
 use mathlib.Core.Bool.{Bool, true, false, cond, _&&_}
 use mathlib.Core.List.{List, [], _∷_, _++_, reverse, reverse-reverse}
 use mathlib.Core.Option.{Option, none, some}
-use Prim.Native.Nat.{ℕ, zero, suc, _+_, _-_, _≤_, _<_}
+use Prim.Native.Nat.{ℕ, _+_, _-_}
 use native.Mathlib.Omega.{arith}
 use lib.Dec.{eqb}
 use lib.ListN.{length, take, set, length-set}
@@ -17,9 +17,9 @@ use Rattle.lexemes.specs.Lexeme.{tokenBy, Parted}
 use Rattle.vocabulary.specs.Codes.{codeOf, headByCode}
 use Rattle.vocabulary.proofs.Laws.{code-head}
 use Rattle.translation.specs.Numbering.{byte, Given, Meaning, parameter, variable, ofKind, meantBy, formPart}
-use Rattle.bindings.specs.Scan.{repsIn, definitionsIn, parametersIn}
-use Rattle.bindings.specs.Meaning.{meaningAt}
-use Rattle.bindings.proofs.Cuts.{lex-part}
+use Rattle.token_scans.specs.Scan.{repsIn, definitionsIn, parametersIn}
+use Rattle.rep_around.specs.Meaning.{meaningAt}
+use Rattle.token_scans.proofs.Cuts.{lex-part}
 use Rattle.table_writer.specs.Grown.{Grown}
 use Rattle.tabling.specs.Fields.{flatBytes}
 use Rattle.tabling.specs.Emit.{Output, Around, wordPart, around, leads, givenIn, closeForm, isDefinition, emitted, withNode, withDefinition}
@@ -28,7 +28,7 @@ use Rattle.forms.specs.Closes.{Closes}
 use Rattle.parts.specs.declared.Form as placed
 use Rattle.parts.specs.Bytes.{wordBytes, formBytes}
 use Rattle.compile.specs.declared.Made.{Made}
-use Rattle.compile.specs.Writes.{lastOf, Writes, Able, Adds}
+use Rattle.compile.specs.Writes.{lastOf, Able, Adds}
 use Rattle.compile.proofs.Writing.{node-written, definition-written}
 
 -- ---- words and forms give nodes

@@ -1,12 +1,12 @@
 -- How many items lead a form's operands, by its head's code. Assumes nothing.
-use mathlib.Core.Path.{_≡_, refl, sym, ap, _∙_}
+use mathlib.Core.Path.{_≡_, refl}
 use mathlib.Core.Bool.{Bool, true, false, cond}
-use Prim.Native.Nat.{ℕ, zero, suc, _-_, _≤_}
+use Prim.Native.Nat.{ℕ, zero, suc, _-_}
 use native.Mathlib.Omega.{arith}
 use lib.Dec.{ltb}
 use lib.ListN.{getD}
 use borrow.Author.Tests.{ltb-false}
-use Rattle.notation.specs.Words.{Head, operation, nothing}
+use Rattle.notation.specs.Words.{operation, nothing}
 use Rattle.vocabulary.specs.Codes.{formHeads, headByCode}
 use Rattle.tabling.specs.Emit.{leads}
 

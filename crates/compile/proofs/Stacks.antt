@@ -1,14 +1,14 @@
 -- The numbers that wait, on the stack of bytes and in the definitions. Assumes nothing.
 use mathlib.Core.Path.{_≡_, refl, sym, ap, subst, _∙_}
 use mathlib.Core.List.{List, [], _∷_, _++_, map, reverse, reverse-cons, reverse-append}
-use Prim.Native.Nat.{ℕ, zero, suc, _+_, _-_, _≤_, _<_}
+use Prim.Native.Nat.{ℕ, zero, suc, _+_, _-_, _<_}
 use native.Mathlib.Omega.{arith}
-use lib.ListN.{length, take, drop, getD, set, take-append-drop, length-drop, length-reverse}
+use lib.ListN.{length, take, drop, set, take-append-drop, length-drop, length-reverse}
 use native.Mathlib.Numerals.{add-one}
 use lib.Seq.{take-append-seam, drop-append-seam, take-take}
 use Rattle.notation.specs.Words.{between}
 use Rattle.translation.specs.Numbering.{byte}
-use Rattle.bindings.proofs.Parts.{drop-take}
+use Rattle.notation.proofs.Between.{drop-take}
 
 map-append : (a b : List ℕ) → map byte (a ++ b) ≡ map byte a ++ map byte b
 map-append [] b = refl

@@ -3,29 +3,29 @@ use mathlib.Core.Path.{_≡_, refl, sym, ap, subst, _∙_}
 use mathlib.Core.Bool.{Bool, true, false, cond, _||_}
 use mathlib.Core.List.{List, [], _∷_, _++_, append-nil}
 use mathlib.Core.Logic.{_⊎_, inl, inr}
-use Prim.Native.Nat.{ℕ, zero, suc, _+_, _-_, _*_, _≤_, _<_}
+use Prim.Native.Nat.{ℕ, zero, suc, _+_, _-_, _≤_, _<_}
 use native.Mathlib.Omega.{arith}
-use native.Mathlib.Numerals.{add-one}
 use lib.Dec.{eqb, ltb}
 use lib.ListN.{length, take, drop, getD, replicate, length-append, length-replicate}
 use lib.Seq.{drop-length}
 use borrow.Author.Tests.{ltb-true, ltb-false}
 use Rattle.program.specs.Check.{check}
-use Rattle.program.specs.Conditions.{fieldBytes, nodesOf, definitionsOf}
+use Rattle.program.specs.Conditions.{fieldBytes, definitionsOf}
 use Rattle.notation.specs.Words.{between}
-use Rattle.notation.specs.Grammar.{Token, opening, closing, word, Program, programTokens, FineProgram}
+use Rattle.notation.specs.Grammar.{Token, Program, programTokens, FineProgram}
 use Rattle.notation.proofs.Lexing.{lex}
 use Rattle.lexemes.specs.declared.Lexeme.{Lexeme}
-use Rattle.lexemes.specs.Lexeme.{nextLexeme, tokenBy, tokenOf, Parted}
+use Rattle.lexemes.specs.Lexeme.{nextLexeme, tokenBy, tokenOf, Parted, depthBy, depthAfter}
 use Rattle.lexemes.proofs.Laws.{parted-splits, next-end}
 use Rattle.translation.specs.Numbering.{byte, table}
 use Rattle.table_writer.specs.Grown.{Grown}
-use Rattle.bindings.specs.Scan.{tokenCode, modeAfter}
-use Rattle.notation.proofs.Words.{not-both}
-use Rattle.bindings.specs.Good.{depthBy}
-use Rattle.bindings.proofs.Cuts.{Cut, cut-first, cut-within, cut-less, cut-next, new-form, same-form, one-more, cut-begun, cut-top, to-end-from}
+use Rattle.vocabulary.specs.Codes.{tokenCode}
+use Rattle.token_scans.specs.Scan.{modeAfter}
+use Rattle.decide.proofs.Picks.{not-both}
+use Rattle.lexemes.proofs.Depth.{depth-kind, depth-most}
+use Rattle.token_scans.proofs.Cuts.{Cut, cut-first, cut-within, cut-less, cut-next, new-form, same-form, one-more, cut-begun, cut-top, to-end-from}
 use Rattle.tabling.specs.Fields.{flatFields, Overfull}
-use Rattle.tabling.specs.Emit.{Output, State, emitted, beforeAt, hereAt, depthAfter, taken, step, emit, start}
+use Rattle.tabling.specs.Emit.{Output, State, emitted, taken, step, emit, start}
 use Rattle.tabling.proofs.Prefix.{emit-append, emit-counted, Counted, table-emitted, cut-table}
 use Rattle.compile.specs.declared.Made.{Made}
 use Rattle.compile.specs.Writes.{lastOf, Writes, Able, Adds, Compiles}
@@ -148,24 +148,6 @@ took (suc k) (x ∷ l) e = let h = took k l (let z : length (take k l) ≡ k = o
 written-within : (out stack : List ℕ) (o : Made) (q : Output) → Writes out stack o q → o .len ≤ length out
 written-within out stack o q w = took (o .len) out (ap length (w .bytes) ∙ sym (w .len))
 
-depth-kind : (d k : ℕ) (w : List ℕ) → depthBy d k ≡ depthAfter d (tokenBy k w)
-unfolding depthBy
-depth-kind d k w = go (eqb k 1) (eqb k 2)
-  where
-    go : (a b : Bool) → cond a (d + 1) (cond b (d - 1) d) ≡ depthAfter d (cond a opening (cond b closing (word w)))
-    go true b = add-one d
-    go false true = refl
-    go false false = refl
-
-depth-most : (d k : ℕ) → depthBy d k ≤ d + 1
-unfolding depthBy
-depth-most d k = go (eqb k 1) (eqb k 2)
-  where
-    go : (a b : Bool) → cond a (d + 1) (cond b (d - 1) d) ≤ d + 1
-    go true b = omega arith
-    go false true = omega arith
-    go false false = omega arith
-
 over : (a b : ℕ) → (ltb 256 a || ltb 32 b) ≡ true → (256 < a) ⊎ (32 < b)
 over a b e = go (ltb 256 a) refl e
   where
@@ -216,7 +198,7 @@ module _ (s out stack : List ℕ) (o : Made) (top at d m : ℕ) (g : Making s ou
         on : Going s top′ (r .end) (depthBy d (r .kind)) (modeAfter m (tokenCode (tokenOf s r))) q′
         on =
             next s top at d m (g .output) (g .going) r e is top′ t (depthBy d (r .kind)) (modeAfter m (tokenCode (tokenOf s r))) q′
-            (depth-kind d (r .kind) (between (r .start) (r .end) s)) (depth-most d (r .kind)) refl refl
+            (sym (depth-kind d (r .kind) (between (r .start) (r .end) s))) (depth-most d (r .kind)) refl refl
 
         pub making-full : (ltb 256 (o′ .nodes) || ltb 32 (o′ .defs)) ≡ true → Compiles s out′ (o′ .len)
         making-full f =

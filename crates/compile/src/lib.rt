@@ -13,7 +13,7 @@ ghost use Rattle.lexemes.specs.Lexeme.{tokenBy, Parted};
 ghost use Rattle.vocabulary.specs.Codes.{headByCode};
 ghost use Rattle.translation.specs.Numbering.{byte};
 ghost use Rattle.tabling.specs.Emit.{wordPart, around, leads, closeForm, isDefinition, withNode, withDefinition, emitted};
-ghost use Rattle.bindings.specs.Scan.{parametersIn};
+ghost use Rattle.token_scans.specs.Scan.{parametersIn};
 ghost use Rattle.compile.specs.Writes.{lastOf, Able, Adds, Compiles};
 
 // How far the table is: its bytes, the numbers that wait, its nodes and definitions.
@@ -243,13 +243,13 @@ pub fn compile(s: &[u8], out: &mut [u8; table_writer::ROOM]) -> usize
         if kind == 0 {
             return table_writer::main_node(out, o.len, last(&stack, o.sp));
         }
-        top = bindings::form_start(d, top, start);
+        top = token_scans::form_start(d, top, start);
         o = token_done(s, top, m, d, kind, start, end, out, &mut stack, o);
         if full(o) {
             return o.len;
         }
-        d = bindings::depth_after(d, kind);
-        m = bindings::mode_after(m, bindings::token_code(s, kind, start, end));
+        d = lexemes::depth_after(d, kind);
+        m = token_scans::mode_after(m, vocabulary::token_code(s, kind, start, end));
         at = end;
     }
     table_writer::main_node(out, o.len, last(&stack, o.sp))

@@ -2,13 +2,14 @@
 use mathlib.Core.Path.{_≡_, refl, sym, ap, _∙_}
 use mathlib.Core.Bool.{Bool, true, false}
 use mathlib.Core.List.{List}
-use Prim.Native.Nat.{ℕ, zero, suc, _+_, _*_, _≤_, _<_}
+use Prim.Native.Nat.{ℕ, _+_, _*_, _≤_, _<_}
 use native.Mathlib.Nat.{add-zero}
 use native.Mathlib.Omega.{arith}
 use lib.ListN.{length, getD, set, replicate, length-set, List·getD-eq-default}
 use lib.Seq.{getD-set-same, getD-set-other}
 use lib.Dec.{eqb, ltb}
 use borrow.Author.Tests.{eqb-true, eqb-false, ne-eqb, ltb-true, ltb-false, lt-ltb, le-ltb}
+use Rattle.decide.proofs.Zeros.{zeros}
 use Rattle.program.specs.Tree.{cost}
 use Rattle.words.specs.Form.{operatorForm, foldByForm, callForm}
 use Rattle.words.specs.Word.{form, word}
@@ -121,10 +122,6 @@ pub part-alone : {ws notes : List ℕ} (w j sum : ℕ) {r o : ℕ} → j < width
 part-alone w j sum h eo f l er s = part-some w j sum h eo (record { value = rw (alone-cost f l) er; noted = s })
 
 -- ---- no note, and one more
-zeros : (n k : ℕ) → getD {A = ℕ} (replicate n 0) k 0 ≡ 0
-zeros zero k = refl
-zeros (suc n) zero = refl
-zeros (suc n) (suc k) = zeros n k
 
 pub none-noted : (ws : List ℕ) (n : ℕ) → Noted ws (replicate n 0)
 none-noted ws n = record { note = λ k h. absurd (h (zeros n k)) }

@@ -3,6 +3,7 @@ ghost use mathlib.Core.Path.{_≡_};
 ghost use Rattle.program.specs.Check.{check};
 ghost use Rattle.network.specs.Network.{freshCall};
 ghost use Rattle.event.specs.Calls.{oneEvent, run};
+ghost use Rattle.translation.specs.Reads.{Reads};
 ghost use Rattle.verdict.specs.Pair.{pair};
 ghost use Rattle.calls.specs.Carried.{resultOf};
 ghost use Rattle.both.specs.Both.{Both, first, second};
@@ -13,6 +14,14 @@ pub extern "C" fn cuddystove_check(program: &[u8]) -> verdict::Verdict
     ensures { λ r. ⌜ pair r ≡ check (now (program .entry)) ⌝ }
 {
     program_check::check(program)
+}
+
+// Reads a program's text; its table starts the slice: 0 and its length, or the refusal and its place.
+#[no_mangle]
+pub extern "C" fn cuddystove_read_text(text: &[u8], table: &mut [u8]) -> verdict::Verdict
+    ensures { λ r. ⌜ Reads (now (text .entry)) (now (table .entry)) (pair r) (now (table .exit)) ⌝ }
+{
+    texts::read_text(text, table)
 }
 
 // Makes a network fresh; 11 and 0 where its length is wrong.

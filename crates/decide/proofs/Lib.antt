@@ -1,2 +1,5 @@
 pub mod Picks
 pub mod Joined
+pub mod Below
+pub mod Options
+pub mod Zeros

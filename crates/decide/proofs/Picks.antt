@@ -28,6 +28,9 @@ known false = inr refl
 pub never : {a : Bool} → a ≡ true → a ≡ false → ⊥
 never p q = true≢false (sym p ∙ q)
 
+pub not-both : {A : Type 0} → true ≡ false → A
+not-both q = absurd (true≢false q)
+
 -- ---- and
 
 pub both : (a b : Bool) → (a && b) ≡ true → (a ≡ true) × (b ≡ true)
@@ -73,3 +76,9 @@ said-no {r} e q = sym e ∙ not-true r q
 
 pub said-yes : {r t : Bool} → r ≡ t → not r ≡ false → t ≡ true
 said-yes {r} e q = sym e ∙ not-false r q
+
+-- ---- a test that holds where another does
+
+pub implied : (a b : Bool) → a ≡ true → (not a || b) ≡ true → b ≡ true
+implied true b p q = q
+implied false b p q = not-both (sym p)

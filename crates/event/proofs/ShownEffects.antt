@@ -68,7 +68,8 @@ unfolding doing
 signals main = (refl, refl, refl, refl, refl, refl)
 
 -- "0x11 deliver a, b: b's heard slots 1–15 from a become the message's, absent ones too; the pending message goes. (.. slot 0 .. stays.)"; L1: "Delivery sets the age to 0."
-receipt : (main : Expr) → plan main network (deliver 1 2) ≡ ((heardFrom 2 1 + 1, mark ∷ pos 8 ∷ replicate 12 mark ++ neg 4 ∷ []) ∷ (ageOf 2 1, pos 0 ∷ []) ∷ (pendingTo 1 2, pos 0 ∷ replicate 15 mark) ∷ [], silent)
+receipt : (main : Expr) → plan main network (deliver 1 2)
+    ≡ ((heardFrom 2 1 + 1, mark ∷ pos 8 ∷ replicate 12 mark ++ neg 4 ∷ []) ∷ (ageOf 2 1, pos 0 ∷ []) ∷ (pendingTo 1 2, pos 0 ∷ replicate 15 mark) ∷ [], silent)
 unfolding doing
 receipt main = refl
 
@@ -116,7 +117,8 @@ fires : (main : Expr) (n : List ℤ) → (plan main n (fire 1) ≡ ((base 1, fir
 unfolding doing
 fires main n = (refl, refl, refl)
 
--- its value, sensor 1 plus the 6 heard in slot 2, which is then one round older; its message to device 1, to which it has a link, in place of the one that was pending: 5, kept in variable 3, in slot 2
+-- its value, sensor 1 plus the 6 heard in slot 2, which is then one round older; its message to device 1, to which it has a link, in place of the one that was pending: 5, kept in
+-- variable 3, in slot 2
 abbrev sends : Expr
 sends = operator 9 add (sense (constant (pos 1))) (foldOp 8 add (constant (pos 0)) (nbr 2 (rep 3 (constant (pos 5)) (variable 4 3))))
 

@@ -47,7 +47,8 @@ paper-list = refl
 
 -- a link, a message on it, its receipt; then there is none to receive or to lose, nor does a refused event change what follows
 message-received : performed counter two (link 1 2 10 ∷ fire 1 ∷ fire 17 ∷ deliver 1 2 ∷ deliver 1 2 ∷ lose 1 2 ∷ fire 1 ∷ []) (replicate 15 (pos 9))
-    ≡ done (write two ((base 1, pos 1 ∷ []) ∷ (heardFrom 1 2, pos 10 ∷ []) ∷ (pendingTo 1 2, pos 1 ∷ []) ∷ (ageOf 2 1, pos 0 ∷ []) ∷ [])) (map pos (0 ∷ 0 ∷ 0 ∷ 0 ∷ 14 ∷ 0 ∷ 0 ∷ 0 ∷ 16 ∷ 0 ∷ 16 ∷ 0 ∷ 0 ∷ 1 ∷ 9 ∷ []))
+    ≡ done (write two ((base 1, pos 1 ∷ []) ∷ (heardFrom 1 2, pos 10 ∷ []) ∷ (pendingTo 1 2, pos 1 ∷ []) ∷ (ageOf 2 1, pos 0 ∷ []) ∷ []))
+    (map pos (0 ∷ 0 ∷ 0 ∷ 0 ∷ 14 ∷ 0 ∷ 0 ∷ 0 ∷ 16 ∷ 0 ∷ 16 ∷ 0 ∷ 0 ∷ 1 ∷ 9 ∷ []))
 unfolding calling
 message-received = refl
 

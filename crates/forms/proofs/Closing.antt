@@ -9,17 +9,16 @@ use native.Mathlib.Omega.{arith}
 use lib.Dec.{eqb, eqb·suc-zero}
 use lib.ListN.{length, take}
 use lib.Seq.{take-all, take-take}
-use Rattle.notation.specs.Words.{Word, between}
+use Rattle.notation.specs.Words.{between}
 use Rattle.notation.specs.Grammar.{Token, opening, closing, word}
 use Rattle.notation.proofs.Lexing.{lex}
 use Rattle.lexemes.specs.declared.Lexeme.{Lexeme}
 use Rattle.lexemes.specs.Lexeme.{lastLexeme, tokenBy}
 use Rattle.lexemes.proofs.Laws.{last-none, last-token}
-use Rattle.vocabulary.proofs.Between.{length-between}
-use Rattle.bindings.specs.declared.Walk.{Walk}
-use Rattle.bindings.specs.Sought.{bindsHere, atFirst, stepped}
-use Rattle.bindings.proofs.Parts.{between-between}
-use Rattle.bindings.proofs.Walks.{Walking, walk-first, walk-within, walk-less, walk-next}
+use Rattle.notation.proofs.Between.{length-between, between-between}
+use Rattle.rep_around.specs.declared.Walk.{Walk}
+use Rattle.rep_around.specs.Outward.{bindsHere, atFirst, stepped}
+use Rattle.rep_around.proofs.Walks.{Walking, walk-first, walk-within, walk-less, walk-next}
 use Rattle.tabling.specs.Emit.{Around, around}
 use Rattle.forms.specs.Closes.{formed, Closes}
 
@@ -65,7 +64,7 @@ no-rep s kind x e = go (eqb kind 1) (eqb (x .depth) 0) _ e
     go true false c e = refl
     go false b c e = refl
 
--- The walk from the part lo..hi of a text: p of its bytes are still to come. What bindings' walk keeps, for a word that no rep binds
+-- The walk from the part lo..hi of a text: p of its bytes are still to come. What rep_around's walk keeps, for a word that no rep binds
 pub record Closing (s : List ℕ) (lo hi p : ℕ) (x : Walk) : Type 0 where
   pub walking : Walking [] s lo hi p x
   pub same : around 0 0 [] [] (reverse (lex (between lo hi s))) ≡ outwards s x (reverse (lex (take p (between lo hi s))))

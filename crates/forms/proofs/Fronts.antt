@@ -10,17 +10,18 @@ use borrow.Author.Tests.{eq-eqb, ne-eqb, eqb-true, eqb-false}
 use Rattle.notation.specs.Words.{Word, between, sameWord, indexOf, theDef}
 use Rattle.notation.specs.Grammar.{Token, opening, closing, word}
 use Rattle.notation.specs.Text.{Sort, gap, left, right, letter, sort}
-use Rattle.notation.proofs.Words.{not-both, same-word}
+use Rattle.decide.proofs.Picks.{not-both}
+use Rattle.notation.proofs.Words.{same-word}
 use Rattle.notation.proofs.Lexing.{lex, lexFrom, lexByte, flush}
 use Rattle.lexemes.specs.declared.Lexeme.{Lexeme}
 use Rattle.lexemes.specs.Lexeme.{nextLexeme, tokenBy, tokenOf}
 use Rattle.lexemes.proofs.Laws.{next-within, next-end, next-token}
 use Rattle.vocabulary.specs.Codes.{codeOf}
 use Rattle.vocabulary.proofs.Laws.{code-def}
-use Rattle.vocabulary.proofs.Between.{between-empty}
-use Rattle.bindings.specs.declared.Found.{Found}
-use Rattle.bindings.specs.Scan.{modeAfter, wordIn, wordsIn, parametersIn}
-use Rattle.bindings.specs.Sought.{Among}
+use Rattle.notation.proofs.Between.{between-empty}
+use Rattle.token_scans.specs.declared.Found.{Found}
+use Rattle.token_scans.specs.Scan.{modeAfter, wordIn, wordsIn, parametersIn}
+use Rattle.token_scans.specs.Sought.{Among}
 use Rattle.tabling.specs.Emit.{isDefinition}
 
 -- ---- the second token

@@ -9,7 +9,7 @@ use Rattle.notation.specs.Words.{ascii, isLetter, isDigit, nameByte, isName, re
 use Rattle.notation.specs.Text.{sort}
 use Rattle.notation.proofs.Lexing.{lex}
 use Rattle.vocabulary.specs.Codes.{codeOf}
-use Rattle.bindings.specs.Scan.{modeAfter, wordsIn, parametersIn}
+use Rattle.token_scans.specs.Scan.{modeAfter, wordsIn, parametersIn}
 use Rattle.tabling.specs.Emit.{around, isDefinition}
 use Rattle.forms.specs.Closes.{Closes}
 

@@ -7,7 +7,7 @@ use Prim.Native.Nat.{ℕ, _≤_}
 use lib.ListN.{length}
 use Rattle.notation.specs.Words.{between}
 use Rattle.notation.proofs.Lexing.{lex}
-use Rattle.bindings.specs.declared.Walk.{Walk}
+use Rattle.rep_around.specs.declared.Walk.{Walk}
 use Rattle.tabling.specs.Emit.{around}
 use Rattle.forms.specs.declared.Form.{Form}
 

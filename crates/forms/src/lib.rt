@@ -6,7 +6,7 @@ ghost use lib.Dec.{eqb};
 ghost use lib.ListN.{length};
 ghost use Rattle.notation.specs.Words.{between};
 ghost use Rattle.notation.proofs.Lexing.{lex};
-ghost use Rattle.bindings.specs.Scan.{parametersIn};
+ghost use Rattle.token_scans.specs.Scan.{parametersIn};
 ghost use Rattle.tabling.specs.Emit.{isDefinition};
 ghost use Rattle.forms.specs.Closes.{formed, Closes};
 
@@ -21,7 +21,7 @@ pub struct Form {
     pub d: usize,
 }
 
-fn form_from(found: bool, place: usize, x: bindings::Walk) -> Form
+fn form_from(found: bool, place: usize, x: rep_around::Walk) -> Form
     ensures { λ r. ⌜ r ≡ formed found place x ⌝ }
 {
     Form {
@@ -52,7 +52,7 @@ pub fn form_of(s: &[u8], top: usize, at: usize) -> Form
 {
     let e = &s[top..at];
     let mut p = at - top;
-    let mut x = bindings::Walk {
+    let mut x = rep_around::Walk {
         depth: 0,
         items: 0,
         a: 0,
@@ -71,7 +71,7 @@ pub fn form_of(s: &[u8], top: usize, at: usize) -> Form
         if opens(kind, x.depth) {
             return form_from(true, top + start, x);
         }
-        x = bindings::step(kind, top + start, top + end, x);
+        x = rep_around::step(kind, top + start, top + end, x);
         p = start;
     }
     form_from(false, top, x)
@@ -101,6 +101,6 @@ pub fn parameters_of(s: &[u8], top: usize, at: usize) -> usize
     requires { ⌜ (top ≤ at) × (at ≤ length (now s)) ⌝ }
     ensures { λ r. ⌜ r ≡ length (parametersIn (lex (between top at (now (s .entry))))) ⌝ }
 {
-    let f = bindings::parameter_of(s, top, at, top, top);
+    let f = token_scans::parameter_of(s, top, at, top, top);
     f.index
 }

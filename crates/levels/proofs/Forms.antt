@@ -1,32 +1,20 @@
 -- Levels that are formed stay so behind each token. Assumes nothing.
-use mathlib.Core.Path.{_≡_, refl, sym, ap, subst, _∙_}
+use mathlib.Core.Path.{_≡_, refl, sym, subst, _∙_}
 use mathlib.Core.Bool.{Bool, true, false, cond, not, _&&_, _||_}
 use mathlib.Core.List.{List, [], _∷_}
-use mathlib.Core.Logic.{_⊎_, inl, inr}
-use mathlib.Core.Option.{Option, none, some}
+use mathlib.Core.Option.{none, some}
 use Prim.Native.Nat.{ℕ, zero, suc, _<_}
 use native.Mathlib.Omega.{arith}
 use lib.ListN.{getD}
 use lib.Dec.{eqb, leb, ltb}
-use borrow.Author.Tests.{eqb-true, eqb-false, ne-eqb, ltb-true}
-use Rattle.notation.proofs.Words.{not-both, both}
-use Rattle.notation.proofs.Viable.{either}
+use borrow.Author.Tests.{eqb-true, ltb-true}
+use Rattle.decide.proofs.Picks.{implied, not-both, both}
+use Rattle.decide.proofs.Below.{allBelow, all-below}
+use Rattle.decide.proofs.Options.{none-some, some-of}
 use Rattle.notation.specs.Grammar.{Token, opening, closing, word}
-use Rattle.levels.proofs.Steps.{Coded, CodedToken, word-move, inner-level}
-use Rattle.levels.specs.Levels.{tokenCode, atomCode, refusal, wordMoves, openMoves, inner, closeMoves, outer, moveOf, reopened, moved, move, Formed}
-
--- a test of every number below n
-abbrev pub allBelow : ℕ → (ℕ → Bool) → Bool
-allBelow zero f = true
-allBelow (suc n) f = f n && allBelow n f
-
-pub below-true : (n : ℕ) (f : ℕ → Bool) (k : ℕ) → allBelow n f ≡ true → k < n → f k ≡ true
-below-true zero f k e h = absurd (omega arith)
-below-true (suc n) f k e h = let p = both (f n) (allBelow n f) e in go (eqb k n) refl (p .0) (below-true n f k (p .1))
-  where
-    go : (b : Bool) → eqb k n ≡ b → f n ≡ true → (k < n → f k ≡ true) → f k ≡ true
-    go true q p ih = rw (eqb-true k n q) p
-    go false q p ih = let d = eqb-false k n q in ih (omega (arith, d))
+use Rattle.levels.proofs.Steps.{CodedToken, word-move, inner-level}
+use Rattle.vocabulary.specs.Codes.{tokenCode}
+use Rattle.levels.specs.Levels.{atomCode, refusal, wordMoves, openMoves, inner, closeMoves, outer, moveOf, reopened, move, Formed}
 
 -- an inner level that is no first head
 abbrev within : ℕ → Bool
@@ -36,24 +24,14 @@ within m = (leb 2 m && ltb m 18) && not (eqb m 3)
 abbrev wordTest : ℕ → ℕ → Bool
 wordTest c m = eqb m refusal || ((eqb m 18 && eqb c 3) || (within m && (not (outer m) || outer c)))
 
-words-move : allBelow 18 (λ c. allBelow 22 (λ k. not (leb 2 c) || wordTest c (getD (wordMoves k) c refusal))) ≡ true
+words-move : allBelow (λ c. allBelow (λ k. not (leb 2 c) || wordTest c (getD (wordMoves k) c refusal)) 22) 18 ≡ true
 words-move = refl
 
 abbrev openTest : ℕ → Bool
 openTest c = eqb (getD openMoves c refusal) refusal || ((within (getD openMoves c refusal) && not (outer (getD openMoves c refusal))) && (within (inner c) && not (outer (inner c))))
 
-opening-moves : allBelow 18 (λ c. not (leb 2 c) || openTest c) ≡ true
+opening-moves : allBelow (λ c. not (leb 2 c) || openTest c) 18 ≡ true
 opening-moves = refl
-
-entry : (c d : Bool) → c ≡ true → (not c || d) ≡ true → d ≡ true
-entry true d p q = q
-entry false d p q = not-both (sym p)
-
-some-of : {a b : List ℕ} → some a ≡ some b → a ≡ b
-some-of e = cc
-
-never : {A : Type 0} {a : List ℕ} → _≡_ {A = Option (List ℕ)} none (some a) → A
-never e = let z : _≡_ {A = ℕ} 0 1 = cc in absurd (omega arith)
 
 refuted : {A : Type 0} (b : Bool) → b ≡ true → not b ≡ true → A
 refuted true p q = not-both (sym q)
@@ -70,7 +48,7 @@ word-formed : (m : ℕ) (ls ls′ : List ℕ) → ((eqb m 18 ≡ true) → Forme
 word-formed m ls ls′ f g e = go (eqb m refusal) (eqb m 18) refl refl e
   where
     go : (a b : Bool) → eqb m refusal ≡ a → eqb m 18 ≡ b → cond a none (some (cond b (11 ∷ reopened ls) (m ∷ ls))) ≡ some ls′ → Formed ls′
-    go true b p q e = never e
+    go true b p q e = none-some e
     go false true p q e = subst Formed (some-of e) (f q)
     go false false p q e = subst Formed (some-of e) (g p q)
 
@@ -91,7 +69,7 @@ three-ways false false c e p q = e
 otherwise : (c m : ℕ) → wordTest c m ≡ true → eqb m refusal ≡ false → eqb m 18 ≡ false → (within m ≡ true) × (outer m ≡ true → outer c ≡ true)
 otherwise c m t p q =
     let h = both (within m) (not (outer m) || outer c) (three-ways (eqb m refusal) (eqb m 18 && eqb c 3) (within m && (not (outer m) || outer c)) t p (rw q)) in
-    (h .0, λ e. entry (outer m) (outer c) e (h .1))
+    (h .0, λ e. implied (outer m) (outer c) e (h .1))
 
 -- a word that begins a definition stands behind the head of an outermost form
 defines : (c m : ℕ) → wordTest c m ≡ true → eqb m 18 ≡ true → c ≡ 3
@@ -103,9 +81,9 @@ defines c m t e = go (eqb c 3) refl (rw (eqb-true m 18 e) at t)
 
 tested : (c k : ℕ) → c < 18 → k < 22 → leb 2 c ≡ true → wordTest c (getD (wordMoves k) c refusal) ≡ true
 tested c k h j l =
-    entry (leb 2 c) (wordTest c (getD (wordMoves k) c refusal)) l
-    (below-true 22 (λ k. not (leb 2 c) || wordTest c (getD (wordMoves k) c refusal)) k
-    (below-true 18 (λ c. allBelow 22 (λ k. not (leb 2 c) || wordTest c (getD (wordMoves k) c refusal))) c words-move h) j)
+    implied (leb 2 c) (wordTest c (getD (wordMoves k) c refusal)) l
+    (all-below (λ k. not (leb 2 c) || wordTest c (getD (wordMoves k) c refusal)) 22
+    (all-below (λ c. allBelow (λ k. not (leb 2 c) || wordTest c (getD (wordMoves k) c refusal)) 22) 18 words-move c h) k j)
 
 pub first-defines : (c d k : ℕ) (ls : List ℕ) → Formed (c ∷ d ∷ ls) → k < 22 → eqb (getD (wordMoves k) c refusal) 18 ≡ true → d ∷ ls ≡ 1 ∷ []
 first-defines c d k ls f j e =
@@ -117,11 +95,12 @@ opened : (c d : ℕ) (ls ls′ : List ℕ) → Formed (c ∷ d ∷ ls) → move 
 unfolding move moveOf Formed
 opened c d ls ls′ f e =
     let h = inner-level c d ls f in
-    go (eqb (getD openMoves c refusal) refusal) refl (entry (leb 2 c) (openTest c) (h .1) (below-true 18 (λ c. not (leb 2 c) || openTest c) c opening-moves (h .0))) e
+    go (eqb (getD openMoves c refusal) refusal) refl (implied (leb 2 c) (openTest c) (h .1) (all-below (λ c. not (leb 2 c) || openTest c) 18 opening-moves c (h .0))) e
   where
-    go : (b : Bool) → eqb (getD openMoves c refusal) refusal ≡ b → (b || ((within (getD openMoves c refusal) && not (outer (getD openMoves c refusal))) && (within (inner c) && not (outer (inner c))))) ≡ true
+    go : (b : Bool) → eqb (getD openMoves c refusal) refusal ≡ b
+        → (b || ((within (getD openMoves c refusal) && not (outer (getD openMoves c refusal))) && (within (inner c) && not (outer (inner c))))) ≡ true
         → cond b none (some (inner c ∷ getD openMoves c refusal ∷ d ∷ ls)) ≡ some ls′ → Formed ls′
-    go true q t e = never e
+    go true q t e = none-some e
     go false q t e =
         let w = both (within (getD openMoves c refusal) && not (outer (getD openMoves c refusal))) (within (inner c) && not (outer (inner c))) t in
         let u = both (within (getD openMoves c refusal)) (not (outer (getD openMoves c refusal))) (w .0) in
@@ -135,12 +114,12 @@ unfolding move moveOf Formed
 closed c d ls ls′ f e = go (eqb (getD closeMoves c refusal) refusal) e
   where
     go : (b : Bool) → cond b none (some (d ∷ ls)) ≡ some ls′ → Formed ls′
-    go true e = never e
+    go true e = none-some e
     go false e = subst Formed (some-of e) (f .3)
 
 outermost : (c k : ℕ) (ls′ : List ℕ) → c < 2 → k < 22 → move (c ∷ []) k ≡ some ls′ → Formed ls′
 outermost zero k ls′ h j e = word-formed (cond (atomCode k) 1 refusal) [] ls′ (not-18 (atomCode k)) (λ p q. outer-word (atomCode k) p) (sym (word-move 0 k [] j) ∙ e)
-outermost (suc zero) k ls′ h j e = never (sym (word-move 1 k [] j) ∙ e)
+outermost (suc zero) k ls′ h j e = none-some (sym (word-move 1 k [] j) ∙ e)
 outermost (suc (suc c)) k ls′ h j e = absurd (omega arith)
 
 -- a definition behind its head, on a program
@@ -155,13 +134,13 @@ first = (refl, (λ x. refl), (λ x. refl), refl)
 outer-opened : (c : ℕ) (ls′ : List ℕ) → c < 2 → move (c ∷ []) 22 ≡ some ls′ → Formed ls′
 unfolding move moveOf
 outer-opened zero ls′ h e = subst Formed (some-of e) first
-outer-opened (suc zero) ls′ h e = never e
+outer-opened (suc zero) ls′ h e = none-some e
 outer-opened (suc (suc c)) ls′ h e = absurd (omega arith)
 
 outer-closed : (c : ℕ) (ls′ : List ℕ) → c < 2 → move (c ∷ []) 23 ≡ some ls′ → Formed ls′
 unfolding move moveOf
-outer-closed zero ls′ h e = never e
-outer-closed (suc zero) ls′ h e = never e
+outer-closed zero ls′ h e = none-some e
+outer-closed (suc zero) ls′ h e = none-some e
 outer-closed (suc (suc c)) ls′ h e = absurd (omega arith)
 
 innermost : (c d k : ℕ) (ls ls′ : List ℕ) → Formed (c ∷ d ∷ ls) → k < 22 → move (c ∷ d ∷ ls) k ≡ some ls′ → Formed ls′

@@ -5,30 +5,25 @@ use mathlib.Core.List.{List, [], _∷_}
 use Prim.Native.Nat.{ℕ, zero, suc, _+_, _*_, _-_, _≤_, _<_, min}
 use native.Mathlib.Omega.{arith}
 use lib.Dec.{eqb, leb, ltb}
-use lib.ListN.{length, getD, set, replicate}
+use lib.ListN.{length, set, replicate}
 use borrow.Author.Tests.{eqb-false, leb-true, ltb-true}
+use Rattle.decide.proofs.Zeros.{zeros}
 use Rattle.notation.specs.Words.{Word, isLetter, isDigit, nameByte, operator}
 use Rattle.notation.specs.Grammar.{opening, closing, word}
-use Rattle.notation.proofs.Words.{not-both}
+use Rattle.decide.proofs.Picks.{not-both}
 use Rattle.lexemes.specs.Lexeme.{tokenBy}
-use Rattle.vocabulary.specs.Codes.{codeOf, run, nameFront, countFront, atomFront, equalsNext, functionFront}
+use Rattle.vocabulary.specs.Codes.{codeOf, tokenCode}
+use Rattle.fronts.specs.Fronts.{run, nameFront, countFront, atomFront, equalsNext, functionFront}
 use Rattle.vocabulary.proofs.Laws.{code-limit}
-use Rattle.levels.specs.Levels.{tokenCode, refusal, inner, moveOf, classOf, levelFront, unheld, heldAt, putAt, advanced, kindCode, judged, kindFront, Numbered}
-use Rattle.levels.proofs.Forms.{allBelow, below-true}
+use Rattle.levels.specs.Levels.{refusal, inner, moveOf, classOf, levelFront, unheld, heldAt, putAt, advanced, judged, kindFront, Numbered}
+use Rattle.decide.proofs.Below.{allBelow, all-below}
 
 -- ---- a token by its kind
-pub code-of : (kind : ℕ) (w : Word) → kindCode kind w ≡ tokenCode (tokenBy kind w)
-code-of kind w = go (eqb kind 1) (eqb kind 2)
-  where
-    go : (a b : Bool) → cond a 22 (cond b 23 (codeOf w)) ≡ tokenCode (cond a opening (cond b closing (word w)))
-    go true b = refl
-    go false true = refl
-    go false false = refl
 
-pub code-below : (kind : ℕ) (w : Word) → kindCode kind w < 24
+pub code-below : (kind : ℕ) (w : Word) → tokenCode (tokenBy kind w) < 24
 code-below kind w = go (eqb kind 1) (eqb kind 2)
   where
-    go : (a b : Bool) → cond a 22 (cond b 23 (codeOf w)) < 24
+    go : (a b : Bool) → tokenCode (cond a opening (cond b closing (word w))) < 24
     go true b = omega arith
     go false true = omega arith
     go false false = let h = code-limit w in omega arith
@@ -136,11 +131,11 @@ inner-below c = go (eqb c 0) (eqb c 12)
 abbrev judgedAt : ℕ → ℕ → ℕ
 judgedAt c k = cond (eqb c unheld) 0 (moveOf c k)
 
-judged-opens : allBelow 19 (λ c. eqb (judgedAt c 22) refusal || ltb (judgedAt c 22) 18) ≡ true
+judged-opens : allBelow (λ c. eqb (judgedAt c 22) refusal || ltb (judgedAt c 22) 18) 19 ≡ true
 unfolding moveOf
 judged-opens = refl
 
-judged-words : allBelow 19 (λ c. allBelow 22 (λ k. eqb (judgedAt c k) refusal || leb (judgedAt c k) 18)) ≡ true
+judged-words : allBelow (λ c. allBelow (λ k. eqb (judgedAt c k) refusal || leb (judgedAt c k) 18) 22) 19 ≡ true
 unfolding moveOf
 judged-words = refl
 
@@ -151,14 +146,14 @@ unrefused false b e p = e
 opens-below : (c : ℕ) → c ≤ 18 → eqb (judgedAt c 22) refusal ≡ false → judgedAt c 22 < 18
 opens-below c h r =
     ltb-true (judgedAt c 22) 18
-    (unrefused (eqb (judgedAt c 22) refusal) (ltb (judgedAt c 22) 18) (below-true 19 (λ c. eqb (judgedAt c 22) refusal || ltb (judgedAt c 22) 18) c judged-opens (omega arith)) r)
+    (unrefused (eqb (judgedAt c 22) refusal) (ltb (judgedAt c 22) 18) (all-below (λ c. eqb (judgedAt c 22) refusal || ltb (judgedAt c 22) 18) 19 judged-opens c (omega arith)) r)
 
 words-within : (c k : ℕ) → c ≤ 18 → k < 22 → eqb (judgedAt c k) refusal ≡ false → judgedAt c k ≤ 18
 words-within c k h j r =
     leb-true (judgedAt c k) 18
     (unrefused (eqb (judgedAt c k) refusal) (leb (judgedAt c k) 18)
-    (below-true 22 (λ k. eqb (judgedAt c k) refusal || leb (judgedAt c k) 18) k
-    (below-true 19 (λ c. allBelow 22 (λ k. eqb (judgedAt c k) refusal || leb (judgedAt c k) 18)) c judged-words (omega arith)) j) r)
+    (all-below (λ k. eqb (judgedAt c k) refusal || leb (judgedAt c k) 18) 22
+    (all-below (λ c. allBelow (λ k. eqb (judgedAt c k) refusal || leb (judgedAt c k) 18) 22) 19 judged-words c (omega arith)) k j) r)
 
 module _ (base depth c m : ℕ) (w : Word) (arr : List ℕ) (f : Numbered arr) (h : c ≤ 18) where
   opens-numbered : m ≡ judgedAt c 22 → eqb m refusal ≡ false → Numbered (putAt base (suc depth) (inner c) (putAt base depth m arr))
@@ -180,11 +175,6 @@ numbered-advanced base depth (suc zero) c m w arr f h e r q p = opens-numbered b
 numbered-advanced base depth (suc (suc zero)) c m w arr f h e r q p = f
 numbered-advanced base depth (suc (suc (suc zero))) c m w arr f h e r q p = word-numbered base depth c m w arr f h e r
 numbered-advanced base depth (suc (suc (suc (suc kind)))) c m w arr f h e r q p = absurd (omega arith)
-
-zeros : (n i : ℕ) → getD {A = ℕ} (replicate n 0) i 0 ≡ 0
-zeros zero i = refl
-zeros (suc n) zero = refl
-zeros (suc n) (suc i) = zeros n i
 
 -- an array of zeros, as a pass begins with
 pub numbered-zeros : (n : ℕ) → Numbered (replicate n 0)

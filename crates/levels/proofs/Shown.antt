@@ -5,7 +5,8 @@ use mathlib.Core.Option.{some}
 use Prim.Native.Nat.{ℕ}
 use Rattle.notation.specs.Words.{ascii, indexOf, isLetter, isDigit, nameByte, isName, reserved, ownName, operator, isCount, isNegative, isNumber}
 use Rattle.notation.specs.Grammar.{Token, opening, closing, word}
-use Rattle.vocabulary.specs.Codes.{codeOf, run, nameFront, countFront, atomFront, functionFront}
+use Rattle.vocabulary.specs.Codes.{codeOf}
+use Rattle.fronts.specs.Fronts.{run, nameFront, countFront, atomFront, functionFront}
 use Rattle.levels.specs.Levels.{refusal, moveOf, move, levelsAt, putAt, levelIn, advanced, judged, kindFront}
 
 -- behind an opening bracket def heads a definition in an outermost form only; behind four parameters no fifth stands

@@ -1,6 +1,6 @@
 -- The levels move as the stack machine steps. Assumes nothing.
 use mathlib.Core.Path.{_≡_, refl, sym, ap, _∙_}
-use mathlib.Core.Bool.{Bool, true, false, cond, _&&_, _||_}
+use mathlib.Core.Bool.{Bool, true, false, cond}
 use mathlib.Core.List.{List, [], _∷_, _++_}
 use mathlib.Core.Option.{Option, none, some}
 use Prim.Native.Nat.{ℕ, zero, suc, _<_}
@@ -10,10 +10,10 @@ use lib.Dec.{eqb, leb, ltb}
 use borrow.Author.Tests.{ne-eqb, ltb-true}
 use Rattle.notation.specs.Words.{Word, Role, fixed, calls, definition, noForm, anExpression, aBinder, aFunction, atom, binder, function, role}
 use Rattle.notation.specs.Grammar.{Token, opening, closing, word}
-use Rattle.notation.proofs.Words.{not-both, both}
-use Rattle.notation.proofs.Machine.{Symbol, item, head, many, shut, program, formHead, list, params, push, headed, begun, step}
-use Rattle.levels.specs.Levels.{tokenCode, segments, segment, stackOf, atomCode, binderCode, functionCode, refusal, when, headMoves, headMove, wordMoves, openMoves, inner, closeMoves}
-use Rattle.levels.specs.Levels.{moveOf, reopened, moved, move, Formed}
+use Rattle.decide.proofs.Picks.{not-both, both}
+use Rattle.notation.proofs.Machine.{Symbol, headed, begun, step}
+use Rattle.vocabulary.specs.Codes.{tokenCode}
+use Rattle.levels.specs.Levels.{segment, stackOf, atomCode, binderCode, functionCode, refusal, when, headMove, wordMoves, moveOf, reopened, move, Formed}
 
 -- what holds at each number below n
 abbrev pub Each : ℕ → (ℕ → Type 0) → Type 0

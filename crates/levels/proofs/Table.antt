@@ -8,7 +8,7 @@ use lib.ListN.{getD}
 use borrow.Author.Tests.{eqb-true}
 use Rattle.notation.specs.Words.{Word, ascii}
 use Rattle.levels.specs.Levels.{moveOf, classOf, classFront, kindFront}
-use Rattle.levels.proofs.Forms.{allBelow, below-true}
+use Rattle.decide.proofs.Below.{allBelow, all-below}
 
 abbrev pub moves : List ℕ
 moves =
@@ -31,15 +31,14 @@ moves =
     ++ ascii "_________OOOOOOOOOOO___^"
     ++ ascii "_________PPPPPPPPPPP___^"
 
-moves-right : allBelow 18 (λ c. allBelow 24 (λ k. eqb (getD moves (c * 24 + k) 0) (moveOf c k + 64))) ≡ true
+moves-right : allBelow (λ c. allBelow (λ k. eqb (getD moves (c * 24 + k) 0) (moveOf c k + 64)) 24) 18 ≡ true
 unfolding moveOf
 moves-right = refl
 
 pub move-at : (c k : ℕ) → c < 18 → k < 24 → getD moves (c * 24 + k) 0 ≡ moveOf c k + 64
 move-at c k h j =
     eqb-true (getD moves (c * 24 + k) 0) (moveOf c k + 64)
-    (below-true 24 (λ k. eqb (getD moves (c * 24 + k) 0) (moveOf c k + 64)) k
-    (below-true 18 (λ c. allBelow 24 (λ k. eqb (getD moves (c * 24 + k) 0) (moveOf c k + 64))) c moves-right h) j)
+    (all-below (λ k. eqb (getD moves (c * 24 + k) 0) (moveOf c k + 64)) 24 (all-below (λ c. allBelow (λ k. eqb (getD moves (c * 24 + k) 0) (moveOf c k + 64)) 24) 18 moves-right c h) k j)
 
 -- the classes are the definition's own: how much of a word is shared at a level of that class
 pub front-by : (c kind k : ℕ) (w : Word) → kind ≡ 3 → classOf c ≡ k → kindFront c kind w ≡ classFront k w

@@ -1,22 +1,18 @@
 -- The stack machine of notation's proofs as numbers: what is still to come at each level of brackets, and how a token moves it. `proofs/Steps.antt` proves that it is the same machine.
 use mathlib.Core.Path.{_≡_}
-use mathlib.Core.Bool.{Bool, true, false, cond, not, _&&_, _||_}
+use mathlib.Core.Bool.{Bool, true, cond, _&&_, _||_}
 use mathlib.Core.List.{List, [], _∷_, _++_}
 use mathlib.Core.Logic.{_⊎_}
 use mathlib.Core.Option.{Option, none, some}
-use Prim.Native.Nat.{ℕ, zero, suc, _+_, _*_, _-_, _≤_, _<_}
+use Prim.Native.Nat.{ℕ, suc, _+_, _-_, _≤_, _<_}
 use lib.ListN.{length, getD, set}
 use lib.Dec.{eqb, leb, ltb}
 use Rattle.notation.specs.Words.{Word, anExpression, aBinder, aFunction}
 use Rattle.notation.specs.Grammar.{Token, opening, closing, word}
 use Rattle.notation.proofs.Machine.{Symbol, item, head, many, shut, program, formHead, list, params}
-use Rattle.vocabulary.specs.Codes.{codeOf, nameFront, atomFront, functionFront}
-
--- a token as a number: a word's code, 22 an opening bracket, 23 a closing one
-abbrev pub tokenCode : Token → ℕ
-tokenCode opening = 22
-tokenCode closing = 23
-tokenCode (word w) = codeOf w
+use Rattle.lexemes.specs.Lexeme.{tokenBy}
+use Rattle.vocabulary.specs.Codes.{tokenCode}
+use Rattle.fronts.specs.Fronts.{nameFront, atomFront, functionFront}
 
 -- What is still to come at a level, by its number: 0 a program, 1 nothing; 2 a head, 3 the head of an outermost form; 4 any number of expressions; 5 to 8 none to three expressions;
 -- 9 a name to bind and 10 a fold's function, then two expressions; 11 a definition's name, 12 its parameters and its body; 13 to 17 none to four parameters; 18 a definition behind its head
@@ -155,15 +151,9 @@ advanced base depth kind c m arr =
     (cond (eqb kind 2) arr
     (cond (eqb m 18) (putAt base 0 0 (putAt base depth 11 arr)) (putAt base depth m arr)))
 
-abbrev pub deeper : ℕ → ℕ → ℕ
-deeper depth kind = cond (eqb kind 1) (suc depth) (cond (eqb kind 2) (depth - 1) depth)
-
--- a token by its kind and bytes: its number, the move that a pass makes, how much of it is shared where it is refused
-abbrev pub kindCode : ℕ → Word → ℕ
-kindCode kind w = cond (eqb kind 1) 22 (cond (eqb kind 2) 23 (codeOf w))
-
+-- a token by its kind and bytes: the move that a pass makes, how much of it is shared where it is refused
 abbrev pub judged : ℕ → ℕ → Word → ℕ
-judged c kind w = cond (eqb c unheld) 0 (moveOf c (kindCode kind w))
+judged c kind w = cond (eqb c unheld) 0 (moveOf c (tokenCode (tokenBy kind w)))
 
 abbrev pub kindFront : ℕ → ℕ → Word → ℕ
 kindFront c kind w = cond (eqb kind 3) (classFront (classOf c) w) 0

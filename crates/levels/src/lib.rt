@@ -1,10 +1,10 @@
 // The levels of the machine that reads a text, as numbers (specs/Levels): how a token moves a level, and the window of levels that a pass over the text holds.
 ghost use mathlib.Core.Path.{_≡_};
-ghost use mathlib.Core.Bool.{true, false};
-ghost use Prim.Native.Nat.{ℕ, _+_, _≤_, _<_};
-ghost use lib.ListN.{length, getD};
+ghost use Prim.Native.Nat.{_+_, _≤_, _<_};
+ghost use lib.ListN.{length};
 ghost use Rattle.notation.specs.Words.{between};
-ghost use Rattle.levels.specs.Levels.{moveOf, inner as innerOf, window, putAt, levelIn, advanced, deeper, kindCode, kindFront, judged, Numbered};
+ghost use Rattle.lexemes.specs.Lexeme.{depthBy};
+ghost use Rattle.levels.specs.Levels.{moveOf, inner as innerOf, window, putAt, levelIn, advanced, kindFront, judged, Numbered};
 
 // How many levels a pass holds.
 pub const WINDOW: usize = 4096;
@@ -16,18 +16,6 @@ pub const REFUSED: u8 = 31;
 
 // Which words each level takes: 1 what stands alone, 2 names, 3 heads and functions.
 const CLASSES: [u8; 18] = [1, 0, 3, 3, 1, 0, 1, 1, 1, 2, 3, 2, 0, 0, 2, 2, 2, 2];
-
-// A token as a number.
-fn token_code(s: &[u8], kind: u8, start: usize, end: usize) -> u8
-    requires { ⌜ (start ≤ end) × (end ≤ length (now s)) ⌝ }
-    ensures { λ r. ⌜ r ≡ kindCode kind (between start end (now (s .entry))) ⌝ }
-{
-    match kind {
-        1 => 22,
-        2 => 23,
-        _ => vocabulary::code(s, start, end),
-    }
-}
 
 // How a token moves a level: a row a level, a column a token (operators, reserved words, names, numbers, other words, the brackets). @ and the letters are the levels 0 to 18,
 // ^ is 30, the level ends, _ is 31, the token is refused.
@@ -65,7 +53,7 @@ pub fn judge(s: &[u8], c: u8, kind: u8, start: usize, end: usize) -> u8
     if c == UNHELD {
         return 0;
     }
-    moved(c, token_code(s, kind, start, end))
+    moved(c, vocabulary::token_code(s, kind, start, end))
 }
 
 // How much of a refused token is shared.
@@ -78,9 +66,9 @@ pub fn front(s: &[u8], c: u8, kind: u8, start: usize, end: usize) -> usize
     }
     let class = CLASSES[c as usize];
     match class {
-        1 => vocabulary::atom_front(s, start, end),
-        2 => vocabulary::name_front(s, start, end),
-        3 => vocabulary::function_front(s, start, end),
+        1 => fronts::atom_front(s, start, end),
+        2 => fronts::name_front(s, start, end),
+        3 => fronts::function_front(s, start, end),
         _ => 0,
     }
 }
@@ -131,7 +119,7 @@ pub fn advance(
     m: u8,
 ) -> usize
     requires { ⌜ (depth < 18446744073709551615) × (kind ≡ 2 → 0 < depth) ⌝ }
-    ensures { λ r. ⌜ (r ≡ deeper depth kind) × (now (levels .exit) ≡ advanced base depth kind c m (now (levels .entry))) ⌝ }
+    ensures { λ r. ⌜ (r ≡ depthBy depth kind) × (now (levels .exit) ≡ advanced base depth kind c m (now (levels .entry))) ⌝ }
 {
     if kind == 1 {
         put(levels, base, depth, m);

@@ -4,3 +4,4 @@ pub mod Cut
 pub mod Seen
 pub mod Laws
 pub mod Shown
+pub mod Depth

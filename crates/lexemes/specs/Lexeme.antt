@@ -68,3 +68,12 @@ tokenOf s r = tokenBy (r .kind) (between (r .start) (r .end) s)
 -- a place that is not inside a word: none reaches up to it, or none goes on there
 unfoldable pub Parted : List ℕ → ℕ → Type 0
 Parted s at = Apart (reverse (take at s)) ⊎ Apart (drop at s)
+
+-- the brackets that are open behind a token, and by its kind
+abbrev pub depthAfter : ℕ → Token → ℕ
+depthAfter d opening = suc d
+depthAfter d closing = d - 1
+depthAfter d (word w) = d
+
+abbrev pub depthBy : ℕ → ℕ → ℕ
+depthBy d kind = cond (eqb kind 1) (suc d) (cond (eqb kind 2) (d - 1) d)

@@ -1,10 +1,10 @@
 // The tokens of a text, one at a time: the next behind a place, the last before it.
 ghost use mathlib.Core.Path.{_≡_};
 ghost use mathlib.Core.List.{reverse};
-ghost use Prim.Native.Nat.{_+_, _-_, _≤_};
+ghost use Prim.Native.Nat.{_+_, _-_, _≤_, _<_};
 ghost use lib.ListN.{take, drop};
 ghost use Rattle.notation.specs.Text.{sort};
-ghost use Rattle.lexemes.specs.Lexeme.{kindOf, leading, nextLexeme, lastLexeme};
+ghost use Rattle.lexemes.specs.Lexeme.{kindOf, leading, nextLexeme, lastLexeme, depthBy};
 
 // Kind 0: there is none. 1: an opening bracket, 2: a closing one, 3: a word. Its bytes are start..end.
 pub struct Lexeme {
@@ -113,4 +113,21 @@ pub fn last(s: &[u8], at: usize) -> Lexeme
         start: end - 1,
         end: end,
     }
+}
+
+// The brackets that are open behind a token of that kind.
+pub fn depth_after(d: usize, kind: u8) -> usize
+    requires { ⌜ d + 1 < 18446744073709551616 ⌝ }
+    ensures { λ r. ⌜ r ≡ depthBy d kind ⌝ }
+{
+    if kind == 1 {
+        return d + 1;
+    }
+    if kind == 2 {
+        if d == 0 {
+            return 0;
+        }
+        return d - 1;
+    }
+    d
 }

@@ -7,7 +7,8 @@ use Prim.Native.Nat.{ℕ, _+_, _-_}
 use lib.ListN.{take, set}
 use lib.IntN.{ℤ, pos, negℤ}
 use Rattle.number.specs.Number.{mark, eqZ}
-use Rattle.network.specs.Network.{sensorsAt, heardAt, pendingAt, blockSize, networkSize, base, copies, freshBlock, heardSound, pendingSound, anyPresent, ageSound, cellSound, firstNot, placed, lowestUnsound}
+use Rattle.network.specs.Network.{sensorsAt, heardAt, pendingAt, blockSize, networkSize, base, copies, freshBlock, heardSound, pendingSound, anyPresent, ageSound, cellSound}
+use Rattle.network.specs.Network.{firstNot, placed, lowestUnsound}
 
 -- what the examples compute with
 unfoldable opened : ℕ → ℕ

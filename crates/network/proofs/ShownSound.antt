@@ -7,7 +7,8 @@ use lib.ListN.{take, set}
 use lib.IntN.{pos}
 use Rattle.number.specs.Number.{mark}
 use Rattle.network.specs.Cells.{write}
-use Rattle.network.specs.Network.{sensorsAt, heardAt, pendingAt, ageAt, networkSize, base, copies, freshBlock, fresh, heardSound, pendingSound, anyPresent, ageSound, cellSound, firstNot, lowestUnsound, unsoundAt, soundness}
+use Rattle.network.specs.Network.{sensorsAt, heardAt, pendingAt, ageAt, networkSize, base, copies, freshBlock, fresh, heardSound, pendingSound, anyPresent, ageSound, cellSound}
+use Rattle.network.specs.Network.{firstNot, lowestUnsound, unsoundAt, soundness}
 
 -- what the examples compute with
 unfoldable opened : ℕ → ℕ

@@ -1,13 +1,16 @@
 -- what passes the test of beginnings can be extended to a word of the class.
-use mathlib.Core.Path.{_≡_, refl, sym, ap, _∙_}
-use mathlib.Core.Bool.{Bool, true, false, cond, not, _&&_, _||_, or-true}
-use mathlib.Core.List.{List, [], _∷_, _++_, append-nil}
+use mathlib.Core.Path.{_≡_, refl, sym, _∙_}
+use mathlib.Core.Bool.{Bool, true, false, cond, not, _&&_, or-true}
+use mathlib.Core.List.{[], _∷_, _++_, append-nil}
 use mathlib.Core.Logic.{_⊎_, inl, inr}
 use Prim.Native.Nat.{ℕ}
-use Rattle.notation.specs.Words.{Word, sameWord, every, oneOf, isLetter, isDigit, nameByte, isName, reservedWords, reserved, operators, operator, isCount, isNegative, isNumber, ownName, atom, binder, function, Role, fixed, calls, definition, noForm, Head, operation, call, nothing, headWords, roleOf, theDef, theInf, lookup, headOf, role}
+use Rattle.notation.specs.Words.{Word, sameWord, every, isLetter, isDigit, nameByte, isName, reservedWords, reserved, operators, operator, isCount, isNegative, isNumber, ownName}
+use Rattle.notation.specs.Words.{atom, binder, function, Role, fixed, calls, definition, noForm, operation, call, nothing, headWords, roleOf, theDef, theInf, lookup, headOf, role}
 use Rattle.notation.specs.Text.{letter, sort, Plain}
-use Rattle.notation.proofs.Words.{not-both, both, same-word, lookup-word}
-use Rattle.notation.proofs.Viable.{Class, atoms, binders, functions, heads, openers, isHead, isOpener, allowed, empty, beginsAtom, beginsBinder, beginsFunction, begins, either, Five, is₁, is₂, is₃, is₄, is₅, which, listed}
+use Rattle.decide.proofs.Picks.{not-both, both}
+use Rattle.notation.proofs.Words.{same-word, lookup-word}
+use Rattle.notation.proofs.Viable.{Class, atoms, binders, functions, heads, openers, isHead, isOpener, allowed, empty, beginsAtom, beginsBinder, beginsFunction, begins, either, Five, is₁}
+use Rattle.notation.proofs.Viable.{is₂, is₃, is₄, is₅, which, listed}
 
 pub record Extends (c : Class) (w : Word) : Type 0 where
   pub more : Word

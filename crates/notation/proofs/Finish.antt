@@ -1,18 +1,18 @@
--- every stack of the machine can be finished (T2), so a list of tokens begins a program exactly if the machine survives it.
-use mathlib.Core.Path.{_≡_, refl, sym, ap, subst, _∙_}
+-- every stack of the machine can be finished, so a list of tokens begins a program exactly if the machine survives it.
+use mathlib.Core.Path.{_≡_, refl, sym, subst, _∙_}
 use mathlib.Core.Bool.{Bool, true, false, cond}
-use mathlib.Core.List.{List, [], _∷_, _++_, append-nil}
+use mathlib.Core.List.{List, [], _∷_, _++_}
 use mathlib.Core.Option.{Option, none, some}
 use mathlib.Core.Logic.{_↔_}
 use Prim.Native.Nat.{ℕ, zero, suc}
-use native.Mathlib.Omega.{arith}
+use Rattle.decide.proofs.Options.{none-some}
 use Rattle.notation.specs.Words.{Word, Piece, anExpression, aBinder, aFunction, Role, fixed, calls, definition, noForm, atom, binder, function, role}
 use Rattle.notation.specs.Grammar.{Token, opening, closing, word, Program, programTokens, FineProgram}
-use Rattle.notation.specs.Text.{Sort, gap, left, right, letter, sort, Plain}
-use Rattle.notation.proofs.Words.{not-both}
+use Rattle.notation.specs.Text.{sort, Plain}
+use Rattle.decide.proofs.Picks.{not-both}
 use Rattle.notation.proofs.Machine.{Symbol, item, head, many, shut, program, formHead, list, params, push, headed, begun, step, onward, run, start, programs-exactly}
-use Rattle.notation.proofs.Lexing.{flush, lexByte, lexFrom, lex, lex-plain}
-use Rattle.notation.proofs.Viable.{Class, atoms, binders, functions, heads, openers, isHead, isOpener, allowed, empty, begins}
+use Rattle.notation.proofs.Lexing.{flush, lexFrom, lex, lex-plain}
+use Rattle.notation.proofs.Viable.{Class, atoms, binders, functions, heads, openers, isHead, isOpener, allowed, empty}
 use Rattle.notation.proofs.Extends.{Extends, begins-extends, begins-empty}
 
 -- which words a stack takes
@@ -30,12 +30,9 @@ wordsOf (list ∷ st) = none
 wordsOf (params zero ∷ st) = none
 wordsOf (params (suc n) ∷ st) = some binders
 
-never : {A : Type 0} {B : Type 0} {b : B} → _≡_ {A = Option B} none (some b) → A
-never q = let z : _≡_ {A = ℕ} 0 1 = cc in absurd (omega arith)
-
 tested : (c : Bool) (st st′ : List Symbol) → cond c (some st) none ≡ some st′ → c ≡ true
 tested true st st′ q = refl
-tested false st st′ q = never q
+tested false st st′ q = none-some q
 
 pub record Takes (st : List Symbol) (w : Word) : Type 0 where
   pub kind : Class
@@ -44,7 +41,7 @@ pub record Takes (st : List Symbol) (w : Word) : Type 0 where
 
 pub step-takes : (st st′ : List Symbol) (w : Word) → step st (word w) ≡ some st′ → Takes st w
 unfolding step
-step-takes [] st′ w q = never q
+step-takes [] st′ w q = none-some q
 step-takes (item anExpression ∷ st) st′ w q = record { kind = atoms; listed = refl; good = tested (atom w) st st′ q }
 step-takes (item aBinder ∷ st) st′ w q = record { kind = binders; listed = refl; good = tested (binder w) st st′ q }
 step-takes (item aFunction ∷ st) st′ w q = record { kind = functions; listed = refl; good = tested (function w) st st′ q }
@@ -53,10 +50,10 @@ step-takes (head ∷ st) st′ w q = record { kind = heads; listed = refl; good 
     go : (r : Role) → headed r st ≡ some st′ → isHead r ≡ true
     go (fixed ks) q = refl
     go calls q = refl
-    go definition q = never q
-    go noForm q = never q
+    go definition q = none-some q
+    go noForm q = none-some q
 step-takes (many ∷ st) st′ w q = record { kind = atoms; listed = refl; good = tested (atom w) (many ∷ st) st′ q }
-step-takes (shut ∷ st) st′ w q = never q
+step-takes (shut ∷ st) st′ w q = none-some q
 step-takes (program ∷ st) st′ w q = record { kind = atoms; listed = refl; good = tested (atom w) st st′ q }
 step-takes (formHead ∷ st) st′ w q = record { kind = openers; listed = refl; good = go (role w) q }
   where
@@ -64,9 +61,9 @@ step-takes (formHead ∷ st) st′ w q = record { kind = openers; listed = refl;
     go (fixed ks) q = refl
     go calls q = refl
     go definition q = refl
-    go noForm q = never q
-step-takes (list ∷ st) st′ w q = never q
-step-takes (params zero ∷ st) st′ w q = never q
+    go noForm q = none-some q
+step-takes (list ∷ st) st′ w q = none-some q
+step-takes (params zero ∷ st) st′ w q = none-some q
 step-takes (params (suc n) ∷ st) st′ w q = record { kind = binders; listed = refl; good = tested (binder w) (params n ∷ st) st′ q }
 
 -- bytes that finish a stack
@@ -153,7 +150,7 @@ on-formHead st f = go (role (x .more)) refl (x .good)
     go definition e q = not-both (sym q)
     go noForm e q = not-both (sym q)
 
--- T2: every stack can be finished
+-- every stack can be finished
 pub finish : (st : List Symbol) → Finish st
 finish [] = record { bytes = []; ends = refl }
 finish (item k ∷ st) = on-item k st (finish st)
@@ -185,7 +182,7 @@ pub starts-exactly : (ts : List Token) → Starts ts ↔ ((st : List Symbol) × 
 starts-exactly ts = (λ h. there (h .rest) (run start ts) refl (sym (run-append ts (h .rest) start) ∙ programs-exactly (ts ++ h .rest) .0 (h .whole, h .fine, h .spelt)), λ h. back (h .0) (h .1))
   where
     there : (us : List Token) (o : Option (List Symbol)) → run start ts ≡ o → onward o (λ st. run st us) ≡ some [] → (st : List Symbol) × (run start ts ≡ some st)
-    there us none e q = never q
+    there us none e q = none-some q
     there us (some st) e q = (st, e)
 
     back : (st : List Symbol) → run start ts ≡ some st → Starts ts
@@ -212,15 +209,15 @@ taken-begun noForm st e = not-both (sym e)
 
 pub takes-step : (st : List Symbol) (c : Class) (w : Word) → wordsOf st ≡ some c → allowed c w ≡ true → (st′ : List Symbol) × (step st (word w) ≡ some st′)
 unfolding step
-takes-step [] c w l e = never l
+takes-step [] c w l e = none-some l
 takes-step (item anExpression ∷ st) c w l e = (st, rw (of-class atoms c w l e))
 takes-step (item aBinder ∷ st) c w l e = (st, rw (of-class binders c w l e))
 takes-step (item aFunction ∷ st) c w l e = (st, rw (of-class functions c w l e))
 takes-step (head ∷ st) c w l e = taken-head (role w) st (of-class heads c w l e)
 takes-step (many ∷ st) c w l e = (many ∷ st, rw (of-class atoms c w l e))
-takes-step (shut ∷ st) c w l e = never l
+takes-step (shut ∷ st) c w l e = none-some l
 takes-step (program ∷ st) c w l e = (st, rw (of-class atoms c w l e))
 takes-step (formHead ∷ st) c w l e = taken-begun (role w) st (of-class openers c w l e)
-takes-step (list ∷ st) c w l e = never l
-takes-step (params zero ∷ st) c w l e = never l
+takes-step (list ∷ st) c w l e = none-some l
+takes-step (params zero ∷ st) c w l e = none-some l
 takes-step (params (suc n) ∷ st) c w l e = (params n ∷ st, rw (of-class binders c w l e))

@@ -1,5 +1,5 @@
--- from bytes to tokens (T3). The word in hand grows at its end, so that a beginning of the bytes is read alike.
-use mathlib.Core.Path.{_≡_, refl, sym, ap, _∙_}
+-- from bytes to tokens. The word in hand grows at its end, so that a beginning of the bytes is read alike.
+use mathlib.Core.Path.{_≡_, refl, ap, _∙_}
 use mathlib.Core.List.{List, [], _∷_, _++_, append-assoc, append-nil}
 use mathlib.Core.Logic.{_↔_}
 use Prim.Native.Nat.{ℕ}
@@ -68,6 +68,6 @@ laid-from (b ∷ s) w h = go (sort b) refl (laid-from s)
     go right e ih = hand w (b ∷ s) h (λ q. let z : _≡_ {A = ℕ} 0 1 = cc in omega arith) (leave b e (ih [] tt))
     go letter e ih = rw (append-assoc w (b ∷ []) s) at (ih (w ++ b ∷ []) (plain-end w b h e))
 
--- T3: bytes lay out the tokens that lexing gives, and no others
+-- bytes lay out the tokens that lexing gives, and no others
 pub spaced-exactly : (ts : List Token) (s : List ℕ) → Spaced ts s ↔ (lex s ≡ ts)
 spaced-exactly ts s = (lexed, λ e. rw e at (laid-from s [] tt))

@@ -1,4 +1,5 @@
 pub mod Words
+pub mod Between
 pub mod Machine
 pub mod Lexing
 pub mod Viable

@@ -1,4 +1,4 @@
--- a stack machine that takes exactly the tokens of fine programs (T1).
+-- a stack machine that takes exactly the tokens of fine programs.
 use mathlib.Core.Path.{_≡_, refl, sym, ap, _∙_}
 use mathlib.Core.Bool.{Bool, true, false, cond}
 use mathlib.Core.List.{List, [], _∷_, _++_, append-assoc, append-nil}
@@ -6,8 +6,10 @@ use mathlib.Core.Option.{Option, none, some}
 use mathlib.Core.Logic.{_↔_}
 use Prim.Native.Nat.{ℕ, zero, suc}
 use native.Mathlib.Omega.{arith}
+use Rattle.decide.proofs.Options.{none-some}
 use Rattle.notation.specs.Words.{Word, Piece, anExpression, aBinder, aFunction, Role, fixed, calls, definition, noForm, theDef, atom, binder, function, role}
-use Rattle.notation.specs.Grammar.{Token, opening, closing, word, Tree, leaf, form, Items, nil, expr, bare, Def, Program, tokens, itemTokens, nameTokens, defTokens, defsTokens, programTokens, byRole, Fine, Fits, Exprs, Names, FineDef, FineDefs, FineProgram}
+use Rattle.notation.specs.Grammar.{Token, opening, closing, word, Tree, leaf, form, Items, nil, expr, bare, Def, Program, tokens, itemTokens, nameTokens, defTokens, defsTokens}
+use Rattle.notation.specs.Grammar.{programTokens, byRole, Fine, Fits, Exprs, Names, FineDef, FineDefs, FineProgram}
 use Rattle.notation.proofs.Words.{role-def, role-is-def}
 
 -- what is still to come: an item, a head, any number of expressions and a closing bracket, a closing bracket;
@@ -195,9 +197,6 @@ by-test : (c : Bool) (st st′ : List Symbol) → cond c (some st) none ≡ some
 by-test true st st′ q = (refl, cc)
 by-test false st st′ q = let z : _≡_ {A = ℕ} 0 1 = cc in absurd (omega arith)
 
-never : {A : Type 0} {st : List Symbol} → _≡_ {A = Option (List Symbol)} none (some st) → A
-never q = let z : _≡_ {A = ℕ} 0 1 = cc in absurd (omega arith)
-
 as-items : {s : Symbol} {st : List Symbol} {ts : List Token} (a b : List Token) → ts ≡ a ++ b → Spelt s a → All st b → All (s ∷ st) ts
 as-items a b e s r = rw e (more a b s r)
 
@@ -217,8 +216,8 @@ back-call w st ts e (more a b (is, f, h) r) =
 back-head : (w : Word) (o : Role) (st st′ : List Symbol) (ts : List Token) → role w ≡ o → headed o st ≡ some st′ → All st′ ts → All (head ∷ st) (word w ∷ ts)
 back-head w (fixed ks) st st′ ts e q r = let p : push ks (shut ∷ st) ≡ st′ = cc in back-fixed w ks st ts e (rw p r)
 back-head w calls st st′ ts e q r = let p : many ∷ st ≡ st′ = cc in back-call w st ts e (rw p r)
-back-head w definition st st′ ts e q r = never q
-back-head w noForm st st′ ts e q r = never q
+back-head w definition st st′ ts e q r = none-some q
+back-head w noForm st st′ ts e q r = none-some q
 
 -- a form that is no definition is the program's expression
 as-main : (st : List Symbol) (ts : List Token) → All (head ∷ st) ts → All (formHead ∷ st) ts
@@ -254,25 +253,25 @@ back-begun w (fixed ks) st st′ ts e q r = let p : push ks (shut ∷ st) ≡ st
 back-begun w calls st st′ ts e q r = let p : many ∷ st ≡ st′ = cc in as-main st (word w ∷ ts) (back-call w st ts e (rw p r))
 back-begun w definition st st′ ts e q r =
     let p : item aBinder ∷ list ∷ item anExpression ∷ shut ∷ program ∷ st ≡ st′ = cc in back-def w st ts e (rw p r)
-back-begun w noForm st st′ ts e q r = never q
+back-begun w noForm st st′ ts e q r = none-some q
 
 back : (st st′ : List Symbol) (t : Token) (ts : List Token) → step st t ≡ some st′ → All st′ ts → All st (t ∷ ts)
 unfolding step tokens itemTokens nameTokens programTokens defsTokens Fine Exprs Names FineDefs
-back [] st′ t ts q r = never q
+back [] st′ t ts q r = none-some q
 back (item anExpression ∷ st) st′ opening ts q r = let p : head ∷ st ≡ st′ = cc in go st ts (rw p r)
   where
     go : (st : List Symbol) (ts : List Token) → All (head ∷ st) ts → All (item anExpression ∷ st) (opening ∷ ts)
     go st ts (more a b (h, is, f, e) r) = as-items (opening ∷ a) b refl (form h is, f, ap (λ (l : List Token). opening ∷ l) e) r
-back (item anExpression ∷ st) st′ closing ts q r = never q
+back (item anExpression ∷ st) st′ closing ts q r = none-some q
 back (item anExpression ∷ st) st′ (word w) ts q r = let p = by-test (atom w) st st′ q in as-items (word w ∷ []) ts refl (leaf w, p .0, refl) (rw (p .1) r)
-back (item aBinder ∷ st) st′ opening ts q r = never q
-back (item aBinder ∷ st) st′ closing ts q r = never q
+back (item aBinder ∷ st) st′ opening ts q r = none-some q
+back (item aBinder ∷ st) st′ closing ts q r = none-some q
 back (item aBinder ∷ st) st′ (word w) ts q r = let p = by-test (binder w) st st′ q in as-items (word w ∷ []) ts refl (w, p .0, refl) (rw (p .1) r)
-back (item aFunction ∷ st) st′ opening ts q r = never q
-back (item aFunction ∷ st) st′ closing ts q r = never q
+back (item aFunction ∷ st) st′ opening ts q r = none-some q
+back (item aFunction ∷ st) st′ closing ts q r = none-some q
 back (item aFunction ∷ st) st′ (word w) ts q r = let p = by-test (function w) st st′ q in as-items (word w ∷ []) ts refl (w, p .0, refl) (rw (p .1) r)
-back (head ∷ st) st′ opening ts q r = never q
-back (head ∷ st) st′ closing ts q r = never q
+back (head ∷ st) st′ opening ts q r = none-some q
+back (head ∷ st) st′ closing ts q r = none-some q
 back (head ∷ st) st′ (word w) ts q r = back-head w (role w) st st′ ts refl q r
 back (many ∷ st) st′ opening ts q r = let p : head ∷ many ∷ st ≡ st′ = cc in go st ts (rw p r)
   where
@@ -289,29 +288,29 @@ back (many ∷ st) st′ (word w) ts q r = let p = by-test (atom w) (many ∷ st
   where
     go : (st : List Symbol) (ts : List Token) → atom w ≡ true → All (many ∷ st) ts → All (many ∷ st) (word w ∷ ts)
     go st ts h (more a b (is, f, e) r) = as-items (word w ∷ a) b refl (expr (leaf w) is, (h, f), ap (λ (l : List Token). word w ∷ l) e) r
-back (shut ∷ st) st′ opening ts q r = never q
+back (shut ∷ st) st′ opening ts q r = none-some q
 back (shut ∷ st) st′ closing ts q r = let p : st ≡ st′ = cc in as-items (closing ∷ []) ts refl refl (rw p r)
-back (shut ∷ st) st′ (word w) ts q r = never q
+back (shut ∷ st) st′ (word w) ts q r = none-some q
 back (program ∷ st) st′ opening ts q r = let p : formHead ∷ st ≡ st′ = cc in go st ts (rw p r)
   where
     go : (st : List Symbol) (ts : List Token) → All (formHead ∷ st) ts → All (program ∷ st) (opening ∷ ts)
     go st ts (more a b s r) = as-items (opening ∷ a) b refl s r
-back (program ∷ st) st′ closing ts q r = never q
+back (program ∷ st) st′ closing ts q r = none-some q
 back (program ∷ st) st′ (word w) ts q r =
     let p = by-test (atom w) st st′ q in
     as-items (word w ∷ []) ts refl (record { defs = []; main = leaf w }, record { definitions = tt; main = p .0 }, refl) (rw (p .1) r)
-back (formHead ∷ st) st′ opening ts q r = never q
-back (formHead ∷ st) st′ closing ts q r = never q
+back (formHead ∷ st) st′ opening ts q r = none-some q
+back (formHead ∷ st) st′ closing ts q r = none-some q
 back (formHead ∷ st) st′ (word w) ts q r = back-begun w (role w) st st′ ts refl q r
 back (list ∷ st) st′ opening ts q r = let p : params 4 ∷ st ≡ st′ = cc in go st ts (rw p r)
   where
     go : (st : List Symbol) (ts : List Token) → All (params 4 ∷ st) ts → All (list ∷ st) (opening ∷ ts)
     go st ts (more a b (ws, f, e) r) = as-items (opening ∷ a) b refl (ws, f, ap (λ (l : List Token). opening ∷ l) e) r
-back (list ∷ st) st′ closing ts q r = never q
-back (list ∷ st) st′ (word w) ts q r = never q
-back (params n ∷ st) st′ opening ts q r = never q
+back (list ∷ st) st′ closing ts q r = none-some q
+back (list ∷ st) st′ (word w) ts q r = none-some q
+back (params n ∷ st) st′ opening ts q r = none-some q
 back (params n ∷ st) st′ closing ts q r = let p : st ≡ st′ = cc in as-items (closing ∷ []) ts refl ([], tt, refl) (rw p r)
-back (params zero ∷ st) st′ (word w) ts q r = never q
+back (params zero ∷ st) st′ (word w) ts q r = none-some q
 back (params (suc n) ∷ st) st′ (word w) ts q r = let p = by-test (binder w) (params n ∷ st) st′ q in go st ts (p .0) (rw (p .1) r)
   where
     go : (st : List Symbol) (ts : List Token) → binder w ≡ true → All (params n ∷ st) ts → All (params (suc n) ∷ st) (word w ∷ ts)
@@ -323,13 +322,13 @@ taken [] st q = let p : st ≡ [] = cc in rw p done
 taken (t ∷ ts) st q = go (step st t) refl q (taken ts)
   where
     go : (o : Option (List Symbol)) → step st t ≡ o → onward o (λ st. run st ts) ≡ some [] → ((st : List Symbol) → run st ts ≡ some [] → All st ts) → All st (t ∷ ts)
-    go none e q ih = never q
+    go none e q ih = none-some q
     go (some st′) e q ih = back st st′ t ts e (ih st′ q)
 
 abbrev pub start : List Symbol
 start = program ∷ []
 
--- T1: the machine takes exactly the tokens of fine programs
+-- the machine takes exactly the tokens of fine programs
 pub programs-exactly : (ts : List Token) → ((p : Program) × FineProgram p × (ts ≡ programTokens p)) ↔ (run start ts ≡ some [])
 programs-exactly ts = (λ h. there (h .0) (h .1) (h .2), λ q. go ts (taken ts start q))
   where

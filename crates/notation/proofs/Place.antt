@@ -1,5 +1,5 @@
--- the longest beginning that bytes share with a text (T4).
-use mathlib.Core.Path.{_≡_, refl, sym, ap, subst, _∙_}
+-- the longest beginning that bytes share with a text.
+use mathlib.Core.Path.{_≡_, refl, sym, ap, _∙_}
 use mathlib.Core.Bool.{Bool, true, false, cond}
 use mathlib.Core.List.{List, [], _∷_, _++_, append-nil, append-assoc}
 use mathlib.Core.Option.{Option, none, some}
@@ -8,18 +8,16 @@ use Prim.Native.Nat.{ℕ, zero, suc, _≤_, suc-le-suc}
 use native.Mathlib.Nat.{le-of-suc-le-suc}
 use native.Mathlib.Omega.{arith}
 use lib.ListN.{length, take}
+use Rattle.decide.proofs.Options.{none-some}
 use Rattle.notation.specs.Words.{Word}
 use Rattle.notation.specs.Grammar.{Token, opening, closing, word, programTokens}
 use Rattle.notation.specs.Text.{Sort, gap, left, right, letter, sort, Text, Begins, Longest}
-use Rattle.notation.proofs.Words.{not-both}
+use Rattle.decide.proofs.Picks.{not-both}
 use Rattle.notation.proofs.Machine.{Symbol, step, onward, run, start, programs-exactly}
 use Rattle.notation.proofs.Lexing.{flush, lexByte, lexFrom, lex, spaced-exactly}
-use Rattle.notation.proofs.Viable.{Class, allowed, empty, begins, front-begins}
+use Rattle.notation.proofs.Viable.{Class, begins, front-begins}
 use Rattle.notation.proofs.Extends.{begins-extends}
 use Rattle.notation.proofs.Finish.{wordsOf, step-takes, takes-step, lex-word, finish}
-
-never : {A : Type 0} {B : Type 0} {b : B} → _≡_ {A = Option B} none (some b) → A
-never q = let z : _≡_ {A = ℕ} 0 1 = cc in absurd (omega arith)
 
 -- the texts are what the machine takes, once lexed
 pub texts-exactly : (s : List ℕ) → Text s ↔ (run start (lex s) ≡ some [])
@@ -124,7 +122,7 @@ in-hand : (st : List Symbol) (b : ℕ) (w : Word) (s : List ℕ) → run st (lex
 in-hand st b w s q = let g = goes-on s b w in go (g .0) (g .1) (step st (word ((b ∷ w) ++ g .0))) refl (sym (ap (λ (l : List Token). run st l) (g .2)) ∙ q)
   where
     go : (x : Word) (ts : List Token) (o : Option (List Symbol)) → step st (word ((b ∷ w) ++ x)) ≡ o → onward o (λ st. run st ts) ≡ some [] → beginsIn st (b ∷ w) ≡ true
-    go x ts none e q = never q
+    go x ts none e q = none-some q
     go x ts (some st′) e q = let t = step-takes st st′ ((b ∷ w) ++ x) e in rw (t .listed) (front-begins (t .kind) (b ∷ w) x (t .good))
 
 in-hand-end : (st : List Symbol) (w : Word) (b : ℕ) (s : List ℕ) → run st (lexFrom (w ++ b ∷ []) s) ≡ some [] → beginsIn st (w ++ b ∷ []) ≡ true
@@ -137,7 +135,7 @@ begins-alive (b ∷ t) u st w q = go (sort b) q (begins-alive t u)
   where
     on : (o : Option (List Symbol)) → onward o (λ st. run st (lex (t ++ u))) ≡ some [] → ((st : List Symbol) (w : Word) → run st (lexFrom w (t ++ u)) ≡ some [] → Alive st w t)
         → aliveBy (bare o) (λ st w. Alive st w t)
-    on none q ih = never q
+    on none q ih = none-some q
     on (some st) q ih = ih st [] q
 
     one : (o : Option (List Symbol)) (k : Token) → onward o (λ st. run st (k ∷ lex (t ++ u))) ≡ some []
@@ -210,7 +208,7 @@ begins-exactly t = (λ h. begins-alive t (h .rest) start [] (texts-exactly (t ++
     back : Alive start [] t → Begins t
     back a = let g = alive-begins t start [] tt a in record { rest = g .0; text = texts-exactly (t ++ g .0) .1 (g .1) }
 
--- T4: the place is the longest beginning, of any bytes; where they are no text it is the place of the refusal
+-- the place is the longest beginning, of any bytes; where they are no text it is the place of the refusal
 pub place-longest : (s : List ℕ) → Longest s (place s)
 unfolding place
 place-longest s = record {

@@ -3,13 +3,13 @@ use mathlib.Core.Path.{_≡_, refl, sym, ap, _∙_}
 use mathlib.Core.Bool.{Bool, true, false, cond}
 use mathlib.Core.List.{List, [], _∷_, _++_, append-nil, append-assoc}
 use mathlib.Core.Option.{Option, none, some}
-use Prim.Native.Nat.{ℕ, zero, suc, _+_, _≤_}
+use Prim.Native.Nat.{ℕ, suc, _+_, _≤_}
 use native.Mathlib.Omega.{arith}
 use lib.ListN.{length}
 use Rattle.notation.specs.Words.{Word}
-use Rattle.notation.specs.Grammar.{Token, opening, closing, word}
+use Rattle.notation.specs.Grammar.{opening, closing, word}
 use Rattle.notation.specs.Text.{Sort, gap, left, right, letter, sort, Plain, Apart, Longest}
-use Rattle.notation.proofs.Machine.{Symbol, step, onward, start}
+use Rattle.notation.proofs.Machine.{Symbol, step, start}
 use Rattle.notation.proofs.Viable.{front-begins}
 use Rattle.notation.proofs.Finish.{step-takes}
 use Rattle.notation.proofs.Place.{beginsIn, afterWord, bare, next, reachBy, reach, place, place-longest}
@@ -120,7 +120,7 @@ tally-reach (b ∷ s) st w p = go (sort b) refl (tally-reach s)
     go right e ih = counts st w (b ∷ s) (λ st. stepped (step st closing) (λ st. tally st [] s)) p (λ q. let z : _≡_ {A = ℕ} 0 1 = cc in omega arith) (λ st. rw e (one ih (step st closing)))
     go letter e ih = ih st (w ++ b ∷ []) (plain-end w b p e) ∙ ap (λ (l : List ℕ). reach st [] l) (append-assoc w (b ∷ []) s)
 
--- T4 for the place that is found token by token
+-- the same for the place that is found token by token
 pub token-place : (s : List ℕ) → tokenPlace s ≡ place s
 unfolding tokenPlace place
 token-place s = tally-reach s start [] tt

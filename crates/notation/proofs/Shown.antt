@@ -7,11 +7,11 @@ use Prim.Native.Nat.{ℕ}
 use Prim.Native.String.{String}
 use lib.Dec.{eqb}
 use borrow.Author.Tests.{eqb-true}
-use Rattle.notation.specs.Words.{Word, ascii, every, indexOf, isLetter, isDigit, nameByte, isName, reserved, ownName, operator, isCount, isNegative, isNumber, bitsOf, atom, binder, function}
-use Rattle.notation.specs.Words.{headOf, role}
+use Rattle.notation.specs.Words.{ascii, every, indexOf, isLetter, isDigit, nameByte, isName, reserved, ownName, operator, isCount, isNegative, isNumber, bitsOf, atom, binder}
+use Rattle.notation.specs.Words.{function, headOf, role}
 use Rattle.notation.specs.Grammar.{tokens, itemTokens, nameTokens, defTokens, defsTokens, programTokens, Fine, Fits, Exprs, Names, FineDefs}
 use Rattle.notation.specs.Text.{sort, Text, Longest}
-use Rattle.notation.proofs.Words.{not-both, both}
+use Rattle.decide.proofs.Picks.{not-both, both}
 use Rattle.notation.proofs.Machine.{Symbol, step, run, start}
 use Rattle.notation.proofs.Lexing.{lex}
 use Rattle.notation.proofs.Viable.{beginsAtom, beginsBinder, beginsFunction}

@@ -1,12 +1,11 @@
 -- Trees, how they are written and which are fine, by computation. Assumes nothing.
 use mathlib.Core.Path.{_≡_, refl}
-use mathlib.Core.Bool.{Bool, true, false}
-use mathlib.Core.List.{List, [], _∷_, _++_, map}
+use mathlib.Core.List.{List, [], _∷_, map}
 use Prim.Native.Nat.{ℕ}
 use Prim.Native.String.{String}
 use native.Mathlib.Omega.{arith}
-use Rattle.notation.specs.Words.{Word, ascii}
-use Rattle.notation.specs.Grammar.{Token, Tree, leaf, form, Items, nil, expr, bare, Def, Program, tokens, defTokens, programTokens, Fine, Names, FineDef, FineProgram}
+use Rattle.notation.specs.Words.{ascii}
+use Rattle.notation.specs.Grammar.{Tree, leaf, form, Items, nil, expr, bare, Def, tokens, defTokens, programTokens, Fine, Names, FineDef, FineProgram}
 use Rattle.notation.proofs.Lexing.{lex}
 use Rattle.notation.proofs.Shown.{opened}
 

@@ -1,13 +1,12 @@
 -- Bytes and words, texts and beginnings, on a few bytes. Assumes nothing.
 use mathlib.Core.Path.{_≡_, refl}
-use mathlib.Core.Bool.{Bool, true, false}
 use mathlib.Core.List.{List, [], _∷_, _++_, map}
 use Prim.Native.Nat.{ℕ, zero, suc, _≤_}
 use native.Mathlib.Omega.{arith}
 use lib.ListN.{replicate, take}
-use Rattle.notation.specs.Words.{Word, ascii}
-use Rattle.notation.specs.Grammar.{Token, opening, closing, word, Tree, leaf, form, Items, nil, Def, Program, tokens, defsTokens, programTokens}
-use Rattle.notation.specs.Text.{Sort, gap, left, right, letter, sort, Apart, Spaced, over, blank, enter, leave, spell, Text, Begins, Longest}
+use Rattle.notation.specs.Words.{ascii}
+use Rattle.notation.specs.Grammar.{Token, opening, closing, word, Tree, leaf, form, nil, Def, Program, tokens, defsTokens, programTokens}
+use Rattle.notation.specs.Text.{gap, left, right, letter, sort, Apart, Spaced, over, blank, enter, leave, spell, Text, Begins, Longest}
 use Rattle.notation.proofs.Lexing.{lex}
 use Rattle.notation.proofs.Shown.{opened}
 

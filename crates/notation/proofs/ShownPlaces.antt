@@ -1,7 +1,7 @@
 -- Texts, and the places of refusal 19, by computation. Assumes nothing.
 use mathlib.Core.Path.{_≡_, refl}
-use mathlib.Core.Bool.{Bool, true}
-use mathlib.Core.List.{List, [], _∷_}
+use mathlib.Core.Bool.{true}
+use mathlib.Core.List.{[], _∷_}
 use Rattle.notation.proofs.Shown.{opened, texts, refusals}
 
 -- "`(def F (x ..) e)` forms with 0 to 4 parameters, then one expression": a text of each form
@@ -82,7 +82,7 @@ numbers = (refl, refl)
 -- "A name is 1 to 16 of a–z, digits, hyphen and star, beginning with a letter.": a 17th character
 names : (refusals (("abcdefghijklmnopq", 16) ∷ ("(f abcdefghijklmnopq)", 19) ∷ ("(abcdefghijklmnopq)", 17) ∷ ("(def abcdefghijklmnopq () 1) 1", 21) ∷ ("X", 0) ∷ ("xX", 1) ∷ ("x_y", 1)
     ∷ ("*x", 0) ∷ ("-x", 1) ∷ []) ≡ true)
-    × (texts ("abcdefghijklmnop" ∷ "(abcdefghijklmnop)" ∷ "x-" ∷ "x*" ∷ "x9" ∷ "share" ∷ "(def share () 1) (share)" ∷ []) ≡ true)
+    × (texts ("abcdefghijklmnop" ∷ "(abcdefghijklmnop)" ∷ "x-" ∷ "x*" ∷ "x9" ∷ "iffy" ∷ "share" ∷ "(def share () 1) (share)" ∷ []) ≡ true)
 unfolding opened
 names = (refl, refl)
 

@@ -2,11 +2,11 @@
 use mathlib.Core.Path.{_≡_, refl}
 use mathlib.Core.Bool.{Bool, true, false, not}
 use mathlib.Core.List.{List, [], _∷_, _++_, map}
-use Prim.Native.Nat.{ℕ}
 use Prim.Native.String.{String}
 use lib.ListN.{replicate}
 use Rattle.notation.specs.Words.{Word, ascii, between, every, indexOf, isName, reservedWords, reserved, ownName, operators, operator, isCount, isNumber, bitsOf, atom, binder, function}
-use Rattle.notation.specs.Words.{Head, plain, slotted, operation, rep, fold, define, call, nothing, headOf, Piece, anExpression, aBinder, aFunction, Role, fixed, calls, definition, noForm, role}
+use Rattle.notation.specs.Words.{plain, slotted, operation, rep, fold, define, call, nothing, headOf, anExpression, aBinder, aFunction, fixed, calls, definition, noForm}
+use Rattle.notation.specs.Words.{role}
 use Rattle.notation.proofs.Shown.{opened}
 
 -- the words that pass a test, those that don't

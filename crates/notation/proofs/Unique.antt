@@ -1,11 +1,11 @@
 -- no two fine programs are spelt alike.
 use mathlib.Core.Path.{_≡_, refl, sym, ap, _∙_}
-use mathlib.Core.Bool.{true}
 use mathlib.Core.List.{List, [], _∷_, _++_, append-assoc, append-nil}
 use Prim.Native.Nat.{ℕ}
 use native.Mathlib.Omega.{arith}
 use Rattle.notation.specs.Words.{Word, Piece, anExpression, aBinder, aFunction, Role, fixed, calls, definition, noForm, theDef, role}
-use Rattle.notation.specs.Grammar.{Token, opening, closing, word, Tree, leaf, form, Items, nil, expr, bare, Def, Program, tokens, itemTokens, nameTokens, defTokens, defsTokens, programTokens, byRole, Fine, Fits, Exprs, Names, FineDef, FineDefs, FineProgram}
+use Rattle.notation.specs.Grammar.{Token, opening, closing, word, Tree, leaf, form, Items, nil, expr, bare, Def, Program, tokens, itemTokens, nameTokens, defTokens, defsTokens}
+use Rattle.notation.specs.Grammar.{programTokens, byRole, Fine, Fits, Exprs, FineDef, FineDefs, FineProgram}
 use Rattle.notation.proofs.Words.{role-def}
 
 -- a tree does not begin with a closing bracket
@@ -36,7 +36,8 @@ mutual
       go definition f g i m = absurd f
       go noForm f g i m = absurd f
 
-      rest : opening ∷ word h ∷ (itemTokens is ++ closing ∷ []) ++ a ≡ opening ∷ word k ∷ (itemTokens js ++ closing ∷ []) ++ b → (itemTokens is ++ closing ∷ []) ++ a ≡ (itemTokens js ++ closing ∷ []) ++ b
+      rest : opening ∷ word h ∷ (itemTokens is ++ closing ∷ []) ++ a ≡ opening ∷ word k ∷ (itemTokens js ++ closing ∷ []) ++ b
+          → (itemTokens is ++ closing ∷ []) ++ a ≡ (itemTokens js ++ closing ∷ []) ++ b
       rest q = cc
 
   items-one : (is js : Items) (ks : List Piece) → Fits is ks → Fits js ks → (a b : List Token) → itemTokens is ++ a ≡ itemTokens js ++ b → (is ≡ js) × (a ≡ b)
@@ -81,7 +82,8 @@ mutual
   many-one nil (bare w js) f g a b q = absurd g
   many-one (expr t is) nil f g a b q = absurd (not-closing t b (itemTokens is ++ closing ∷ a) (sym q ∙ append-assoc (tokens t) (itemTokens is) (closing ∷ a)))
   many-one (expr t is) (expr u js) f g a b q =
-      let h = tree-one t u (f .0) (g .0) (itemTokens is ++ closing ∷ a) (itemTokens js ++ closing ∷ b) (sym (append-assoc (tokens t) (itemTokens is) (closing ∷ a)) ∙ q ∙ append-assoc (tokens u) (itemTokens js) (closing ∷ b)) in
+      let h = tree-one t u (f .0) (g .0) (itemTokens is ++ closing ∷ a) (itemTokens js ++ closing ∷ b)
+      (sym (append-assoc (tokens t) (itemTokens is) (closing ∷ a)) ∙ q ∙ append-assoc (tokens u) (itemTokens js) (closing ∷ b)) in
       let i = many-one is js (f .1) (g .1) a b (h .1) in
       ((cc (h .0, i .0)), i .1)
   many-one (expr t is) (bare w js) f g a b q = absurd g
@@ -133,7 +135,8 @@ defs-one [] [] t u f g h k a b q = let r = tree-one t u h k a b q in (refl, r .0
 defs-one [] (e ∷ es) t u f g h k a b q = absurd (not-def t h e a (defsTokens es ++ (tokens u ++ b)) (q ∙ append-assoc (defTokens e) (defsTokens es) (tokens u ++ b)))
 defs-one (d ∷ ds) [] t u f g h k a b q = absurd (not-def u k d b (defsTokens ds ++ (tokens t ++ a)) (sym q ∙ append-assoc (defTokens d) (defsTokens ds) (tokens t ++ a)))
 defs-one (d ∷ ds) (e ∷ es) t u f g h k a b q =
-    let r = def-one d e (f .0) (g .0) (defsTokens ds ++ (tokens t ++ a)) (defsTokens es ++ (tokens u ++ b)) (sym (append-assoc (defTokens d) (defsTokens ds) (tokens t ++ a)) ∙ q ∙ append-assoc (defTokens e) (defsTokens es) (tokens u ++ b)) in
+    let r = def-one d e (f .0) (g .0) (defsTokens ds ++ (tokens t ++ a)) (defsTokens es ++ (tokens u ++ b))
+    (sym (append-assoc (defTokens d) (defsTokens ds) (tokens t ++ a)) ∙ q ∙ append-assoc (defTokens e) (defsTokens es) (tokens u ++ b)) in
     let i = defs-one ds es t u (f .1) (g .1) h k a b (r .1) in
     let x = r .0 in
     let y = i .0 in

@@ -1,16 +1,17 @@
 -- which words begin a word of a class: exactly those that can be extended to one.
-use mathlib.Core.Path.{_≡_, refl, sym, ap, _∙_}
+use mathlib.Core.Path.{_≡_, refl, sym}
 use mathlib.Core.Bool.{Bool, true, false, cond, not, _&&_, _||_, or-true}
-use mathlib.Core.List.{List, [], _∷_, _++_, append-nil, append-assoc}
+use mathlib.Core.List.{List, [], _∷_, _++_}
 use mathlib.Core.Logic.{_⊎_, inl, inr}
-use Prim.Native.Nat.{ℕ, zero, suc, _+_, _*_, _-_, _≤_}
+use Prim.Native.Nat.{ℕ, _+_, _*_, _-_, _≤_}
 use native.Mathlib.Omega.{arith}
 use lib.Dec.{eqb, leb}
 use lib.ListN.{length, length-append}
-use borrow.Author.Tests.{eqb-true, leb-true, le-leb}
-use Rattle.notation.specs.Words.{Word, sameWord, every, oneOf, isLetter, isDigit, nameByte, isName, reservedWords, reserved, operators, operator, valueFrom, isCount, isNegative, isNumber, ownName, atom, binder, function, Piece, Role, fixed, calls, definition, noForm, Head, operation, call, nothing, headWords, roleOf, theInf, headOf, role}
-use Rattle.notation.specs.Text.{letter, sort, Plain}
-use Rattle.notation.proofs.Words.{not-both, both, same-word, lookup-word}
+use borrow.Author.Tests.{leb-true, le-leb}
+use Rattle.notation.specs.Words.{Word, sameWord, every, oneOf, isLetter, isDigit, nameByte, isName, reserved, operators, operator, valueFrom, isCount, isNegative, isNumber}
+use Rattle.notation.specs.Words.{ownName, atom, binder, function, Role, fixed, calls, definition, noForm, operation, call, nothing, headWords, roleOf, theInf, headOf, role}
+use Rattle.decide.proofs.Picks.{not-both, both}
+use Rattle.notation.proofs.Words.{same-word, lookup-word}
 
 -- the classes of words: what stands alone, what is bound, functions of folds, heads within a program, heads of its outermost forms
 pub data Class : Type 0 where

@@ -1,19 +1,12 @@
 -- equal words; the word def, and no other, begins a definition.
 use mathlib.Core.Path.{_≡_, refl, sym, ap, _∙_}
-use mathlib.Core.Bool.{Bool, true, false, cond, not, _&&_, _||_}
+use mathlib.Core.Bool.{Bool, true, false, cond, not, _||_}
 use mathlib.Core.List.{List, [], _∷_}
-use Prim.Native.Nat.{ℕ}
-use native.Mathlib.Omega.{arith}
 use lib.Dec.{eqb}
 use borrow.Author.Tests.{eqb-true}
-use Rattle.notation.specs.Words.{Word, sameWord, every, lookup, Head, operation, call, nothing, headWords, Role, fixed, calls, definition, noForm, roleOf, theDef, operator, ownName, headOf, role}
-
-pub not-both : {A : Type 0} → true ≡ false → A
-not-both q = let z : _≡_ {A = ℕ} 0 1 = cc in absurd (omega arith)
-
-pub both : (a b : Bool) → (a && b) ≡ true → (a ≡ true) × (b ≡ true)
-both true b e = (refl, e)
-both false b e = not-both (sym e)
+use Rattle.decide.proofs.Picks.{not-both, both, implied}
+use Rattle.notation.specs.Words.{Word, sameWord, every, lookup, operation, call, nothing, headWords, Role, fixed, calls, definition, noForm, roleOf, theDef, operator, ownName, headOf}
+use Rattle.notation.specs.Words.{role}
 
 pub same-word : (w v : Word) → sameWord w v ≡ true → w ≡ v
 same-word [] [] e = refl
@@ -36,13 +29,9 @@ lookup-word f t w [] r h k m e = m e
 lookup-word {A} {C} f t w (x ∷ l) r h k m e =
     go (sameWord w (x .0)) refl (both (not (f (x .1)) || t (x .0)) (every (λ x. not (f (x .1)) || t (x .0)) l) h) e (λ g. lookup-word f t w l r g k m)
   where
-    entry : (c d : Bool) → c ≡ true → (not c || d) ≡ true → d ≡ true
-    entry true d p q = q
-    entry false d p q = not-both (sym p)
-
     go : (c : Bool) → sameWord w (x .0) ≡ c → ((not (f (x .1)) || t (x .0)) ≡ true) × (every (λ x. not (f (x .1)) || t (x .0)) l ≡ true)
         → f (cond c (x .1) (lookup w l r)) ≡ true → (every (λ x. not (f (x .1)) || t (x .0)) l ≡ true → f (lookup w l r) ≡ true → C) → C
-    go true q p e ih = k (rw (same-word w (x .0) q) (entry (f (x .1)) (t (x .0)) e (p .0)))
+    go true q p e ih = k (rw (same-word w (x .0) q) (implied (f (x .1)) (t (x .0)) e (p .0)))
     go false q p e ih = ih (p .1) e
 
 abbrev defines : Role → Bool

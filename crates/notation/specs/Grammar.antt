@@ -1,6 +1,6 @@
 -- The notation as trees and how each is spelt; no reader stands in it. Definitions only: nothing is assumed.
 use mathlib.Core.Path.{_≡_}
-use mathlib.Core.Bool.{Bool, true}
+use mathlib.Core.Bool.{true}
 use mathlib.Core.List.{List, [], _∷_, _++_}
 use Prim.Native.Nat.{ℕ, zero, suc}
 use Rattle.notation.specs.Words.{Word, Piece, anExpression, aBinder, aFunction, Role, fixed, calls, definition, noForm, theDef, atom, binder, function, role}

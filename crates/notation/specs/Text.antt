@@ -1,14 +1,14 @@
 -- Texts of the notation, their beginnings, and the longest beginning that bytes share with a text. Definitions only: nothing is assumed.
 use mathlib.Core.Path.{_≡_}
-use mathlib.Core.Bool.{Bool, true, false, cond, _||_}
+use mathlib.Core.Bool.{cond, _||_}
 use mathlib.Core.List.{List, [], _∷_, _++_}
-use Prim.Native.Nat.{ℕ, zero, suc, _≤_}
+use Prim.Native.Nat.{ℕ, _≤_}
 use lib.Dec.{eqb}
 use lib.ListN.{length, take}
 use Rattle.notation.specs.Words.{Word}
 use Rattle.notation.specs.Grammar.{Token, opening, closing, word, Program, programTokens, FineProgram}
 
--- what a byte is: a blank (a space or a line end), a bracket, or part of a word
+-- what a byte is: a blank (a space or a line end), a bracket; every other is part of a word (letter), whether a word of the notation has it or not
 pub data Sort : Type 0 where
   gap left right letter : Sort
 

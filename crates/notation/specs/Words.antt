@@ -1,7 +1,7 @@
 -- The words of the notation: names, numbers, operators, and what a word is behind an opening bracket. A word is a list of bytes. Definitions only: nothing is assumed.
 use mathlib.Core.Bool.{Bool, true, false, not, cond, _&&_, _||_}
-use mathlib.Core.List.{List, [], _∷_, _++_}
-use Prim.Native.Nat.{ℕ, zero, suc, _+_, _*_, _-_, _%_}
+use mathlib.Core.List.{List, [], _∷_}
+use Prim.Native.Nat.{ℕ, suc, _+_, _*_, _-_, _%_}
 use Prim.Native.Char.{code}
 use Prim.Native.String.{String, [] as empty, _∷_ as _then_}
 use lib.Dec.{eqb, leb}
@@ -10,7 +10,7 @@ use lib.ListN.{length, take, drop, replicate}
 abbrev pub Word : Type 0
 Word = List ℕ
 
--- the bytes of a quoted text
+-- the bytes of a quoted text, all of whose characters are ASCII
 abbrev pub ascii : String → List ℕ
 ascii empty = []
 ascii (c then s) = code c ∷ ascii s

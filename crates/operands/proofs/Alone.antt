@@ -8,7 +8,7 @@ use lib.Dec.{eqb}
 use borrow.Author.Tests.{eqb-true, not-true}
 use Rattle.decide.proofs.Picks.{both}
 use Rattle.bits.specs.Bits.{hasBit}
-use Rattle.bits.proofs.Bits.{all-below}
+use Rattle.decide.proofs.Below.{all-below}
 use Rattle.words.specs.Form.{foldByForm, callForm}
 use Rattle.words.specs.Word.{form}
 use Rattle.operands.specs.Formed.{widths, width, aloneSet, bodySet, bindSet, isAlone, hasBody, binds}

@@ -11,7 +11,8 @@ use borrow.Author.Count.{below-more}
 use borrow.Author.Tests.{eqb-true}
 use Rattle.program.specs.Table.{nodeLimit}
 use Rattle.bits.specs.Bits.{hasBit}
-use Rattle.bits.proofs.Bits.{all-below, same, same-eq}
+use Rattle.decide.proofs.Below.{all-below}
+use Rattle.bits.proofs.Bits.{same, same-eq}
 use Rattle.words.specs.Form.{foldByForm, callForm}
 use Rattle.words.specs.Word.{form, word}
 use Rattle.operands.specs.Formed.{width, operand, bodySet, hasBody, Formed}

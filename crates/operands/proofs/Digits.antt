@@ -5,7 +5,7 @@ use Prim.Native.Nat.{ℕ, _*_, _/_, _%_, _^_, _<_}
 use lib.ListN.{getD}
 use lib.Dec.{eqb}
 use borrow.Author.Tests.{eqb-true}
-use Rattle.bits.proofs.Bits.{all-below}
+use Rattle.decide.proofs.Below.{all-below}
 use Rattle.operands.specs.Formed.{widths, packed}
 
 digit : ℕ → Bool

@@ -1,30 +1,27 @@
 -- Behind each token that the machine takes, the array holds the machine's levels. Assumes nothing.
 use mathlib.Core.Path.{_≡_, refl, sym, ap, subst, _∙_}
-use mathlib.Core.Bool.{Bool, true, false, cond, not, _&&_, _||_}
-use mathlib.Core.List.{List, [], _∷_, _++_}
-use mathlib.Core.Logic.{_⊎_, inl, inr}
-use mathlib.Core.Option.{Option, none, some}
+use mathlib.Core.Bool.{Bool, true, false, cond, _&&_}
+use mathlib.Core.List.{List, [], _∷_}
+use mathlib.Core.Logic.{inl, inr}
+use mathlib.Core.Option.{none, some}
 use Prim.Native.Nat.{ℕ, zero, suc, _+_, _-_, _≤_, _<_}
 use native.Mathlib.Omega.{arith}
-use lib.ListN.{length, getD, set}
+use lib.ListN.{length, getD}
 use lib.Dec.{eqb, leb, ltb}
-use borrow.Author.Tests.{eqb-true, eqb-false, ne-eqb, leb-true, leb-false, le-leb, ltb-true, ltb-false, lt-ltb}
-use Rattle.notation.proofs.Words.{not-both, both}
+use borrow.Author.Tests.{eqb-true, ne-eqb, leb-true, leb-false, le-leb, ltb-true, lt-ltb}
+use Rattle.decide.proofs.Options.{none-some, some-of}
+use Rattle.decide.proofs.Picks.{not-both, both}
 use Rattle.notation.specs.Grammar.{Token, opening, closing, word}
-use Rattle.levels.specs.Levels.{tokenCode, refusal, wordMoves, inner, outer, moveOf, reopened, moved, move, Formed, window, unheld, heldAt, putAt, levelIn, advanced, deeper, Based}
-use Rattle.levels.proofs.Steps.{CodedToken, Coded}
+use Rattle.vocabulary.specs.Codes.{tokenCode}
+use Rattle.levels.specs.Levels.{refusal, wordMoves, inner, moveOf, reopened, moved, move, Formed, window, unheld, heldAt, putAt, levelIn, advanced, Based}
+use Rattle.lexemes.specs.Lexeme.{depthBy}
+use Rattle.levels.proofs.Steps.{CodedToken}
 use Rattle.levels.proofs.Forms.{first-defines}
 use Rattle.parse.proofs.Held.{Held, by-equal, put-same, put-other, put-length, held-word, held-opening, held-closing}
 
 -- ---- the levels behind a token
-some-of : {a b : List ℕ} → some a ≡ some b → a ≡ b
-some-of e = cc
-
-never : {A : Type 0} {a : List ℕ} → _≡_ {A = Option (List ℕ)} none (some a) → A
-never e = let z : _≡_ {A = ℕ} 0 1 = cc in absurd (omega arith)
-
 passed : (b : Bool) (x ls′ : List ℕ) → cond b none (some x) ≡ some ls′ → x ≡ ls′
-passed true x ls′ e = never e
+passed true x ls′ e = none-some e
 passed false x ls′ e = some-of e
 
 moved-on : (c k : ℕ) (l ls′ : List ℕ) → move (c ∷ l) k ≡ some ls′ → moved c k (moveOf c k) l ≡ ls′
@@ -85,7 +82,7 @@ module _ (base depth : ℕ) (arr : List ℕ) (len : length arr ≡ window) (base
 
   -- behind a token of that kind and move
   abbrev pub Behind : ℕ → ℕ → List ℕ → Type 0
-  Behind kind m ls′ = Held base (advanced base depth kind (levelIn base depth arr) m arr) ls′ (deeper depth kind) × (length ls′ ≡ suc (deeper depth kind))
+  Behind kind m ls′ = Held base (advanced base depth kind (levelIn base depth arr) m arr) ls′ (depthBy depth kind) × (length ls′ ≡ suc (depthBy depth kind))
 
   behind-opening : (m : ℕ) (ls′ : List ℕ) → Moves opening m → move (c ∷ l) 22 ≡ some ls′ → Behind 1 m ls′
   behind-opening m ls′ q e =

@@ -2,18 +2,16 @@
 use mathlib.Core.Path.{_≡_, refl, sym}
 use mathlib.Core.Bool.{true}
 use mathlib.Core.List.{List, [], _∷_, _++_}
-use mathlib.Core.Option.{none, some}
-use Prim.Native.Nat.{ℕ, zero, suc, _<_}
-use native.Mathlib.Omega.{arith}
-use lib.Dec.{leb, ltb}
+use Prim.Native.Nat.{ℕ, _<_}
+use lib.Dec.{leb}
 use borrow.Author.Tests.{ltb-true}
 use Rattle.notation.specs.Words.{Word}
 use Rattle.notation.specs.Grammar.{Token, opening, closing, word}
-use Rattle.notation.proofs.Words.{not-both}
+use Rattle.decide.proofs.Picks.{not-both}
 use Rattle.notation.proofs.Machine.{Symbol}
 use Rattle.notation.proofs.Viable.{atoms, binders, functions, heads, openers}
 use Rattle.notation.proofs.Rules.{viable}
-use Rattle.vocabulary.proofs.Fronts.{front-viable, front-nothing}
+use Rattle.fronts.proofs.Viable.{front-viable, front-nothing}
 use Rattle.levels.specs.Levels.{segment, stackOf, Formed, classOf, classFront, levelFront}
 use Rattle.levels.proofs.Steps.{each, _▹_, inner-level}
 use Rattle.parse.proofs.Tokens.{front}

@@ -1,18 +1,14 @@
 -- The levels that a pass holds in its array follow the machine's. Assumes nothing.
-use mathlib.Core.Path.{_≡_, refl, sym, ap, subst, _∙_}
-use mathlib.Core.Bool.{Bool, true, false, cond, not, _&&_, _||_}
-use mathlib.Core.List.{List, [], _∷_, _++_}
-use mathlib.Core.Option.{Option, none, some}
+use mathlib.Core.Path.{_≡_, refl, sym, ap, _∙_}
+use mathlib.Core.Bool.{Bool, true, false, cond, _&&_}
+use mathlib.Core.List.{List, _∷_}
 use Prim.Native.Nat.{ℕ, zero, suc, _+_, _-_, _≤_, _<_}
 use native.Mathlib.Omega.{arith}
 use lib.ListN.{length, getD, set, length-set}
 use lib.Seq.{getD-set-same, getD-set-other}
 use lib.Dec.{eqb, leb, ltb}
-use borrow.Author.Tests.{eqb-true, eqb-false, ne-eqb, leb-true, leb-false, le-leb, ltb-true, ltb-false, lt-ltb, le-ltb}
-use Rattle.notation.proofs.Words.{not-both, both}
-use Rattle.notation.specs.Grammar.{Token, opening, closing, word}
-use Rattle.levels.specs.Levels.{tokenCode, refusal, inner, moveOf, reopened, moved, move, Formed, window, unheld, heldAt, putAt, levelIn, advanced}
-use Rattle.levels.proofs.Steps.{CodedToken, Coded}
+use borrow.Author.Tests.{eqb-true, eqb-false, leb-true, le-leb, lt-ltb}
+use Rattle.levels.specs.Levels.{window, heldAt, putAt}
 
 -- the array has the numbers of the levels from base on, so far as there are such and they are held
 abbrev pub Held : ℕ → List ℕ → List ℕ → ℕ → Type 0

@@ -1,6 +1,6 @@
 -- One pass over a text, token by token. Assumes nothing.
 use mathlib.Core.Path.{_≡_, refl, sym, ap, subst, _∙_}
-use mathlib.Core.Bool.{Bool, true, false, cond, not, _&&_, _||_}
+use mathlib.Core.Bool.{Bool, true, false, cond, _&&_}
 use mathlib.Core.List.{List, [], _∷_, _++_}
 use mathlib.Core.Logic.{_⊎_, inl, inr}
 use mathlib.Core.Option.{Option, none, some}
@@ -8,19 +8,23 @@ use Prim.Native.Nat.{ℕ, zero, suc, _+_, _-_, _≤_, _<_, max}
 use native.Mathlib.Omega.{arith}
 use lib.ListN.{length, getD, drop, replicate, length-replicate}
 use lib.Dec.{eqb, leb, ltb}
-use borrow.Author.Tests.{eqb-true, eqb-false, ne-eqb, leb-true, leb-false, le-leb, ltb-true, ltb-false, lt-ltb}
-use Rattle.notation.proofs.Words.{not-both, both}
-use Rattle.notation.specs.Grammar.{Token, opening, closing, word}
+use borrow.Author.Tests.{ne-eqb, leb-true, le-leb, ltb-true, lt-ltb}
+use Rattle.decide.proofs.Zeros.{zeros}
+use Rattle.decide.proofs.Options.{none-some}
+use Rattle.decide.proofs.Picks.{not-both, both}
+use Rattle.notation.specs.Grammar.{Token, closing}
 use Rattle.notation.proofs.Machine.{Symbol, run, start as outset}
 use Rattle.notation.proofs.Lexing.{lex}
 use Rattle.notation.proofs.Place.{reach, place, place-longest}
-use Rattle.levels.specs.Levels.{tokenCode, refusal, segment, stackOf, inner, moveOf, moved, move, Formed, levelsAt, levelFront, window, unheld, heldAt, putAt, levelIn, advanced, deeper, Numbered, Based}
+use Rattle.vocabulary.specs.Codes.{tokenCode}
+use Rattle.levels.specs.Levels.{refusal, segment, stackOf, inner, moveOf, moved, move, Formed, levelsAt, levelFront, window, heldAt, putAt, levelIn, advanced, Numbered, Based}
+use Rattle.lexemes.specs.Lexeme.{depthBy}
 use Rattle.parse.specs.Passed.{levels, isEmpty, Passed}
-use Rattle.levels.proofs.Steps.{CodedToken, each, _▹_, inner-level}
+use Rattle.levels.proofs.Steps.{each, _▹_, inner-level}
 use Rattle.parse.proofs.Tokens.{front, Next, Alive, begin, goes-on, stops-at, stops-run, stops-deep}
 use Rattle.parse.proofs.Fronts.{front-level}
 use Rattle.parse.proofs.Held.{Held, put-length}
-use Rattle.parse.proofs.Follows.{OfKind, anOpening, aClosing, aWord, Moves, Behind, found, follows}
+use Rattle.parse.proofs.Follows.{OfKind, anOpening, aClosing, aWord, Moves, found, follows}
 
 -- the machine is at the place with the levels that the array holds
 pub record Lives (s : List ℕ) (base at depth : ℕ) (arr : List ℕ) : Type 0 where
@@ -45,11 +49,6 @@ pub record Going (s : List ℕ) (base at depth deepest : ℕ) (arr : List ℕ) :
   pub within : at ≤ length s
   pub state : Lives s base at depth arr ⊎ Past s base at deepest
 
-zeros : (n i : ℕ) → _≡_ {A = ℕ} (getD (replicate n 0) i 0) 0
-zeros zero i = refl
-zeros (suc n) zero = refl
-zeros (suc n) (suc i) = zeros n i
-
 -- the outset: nothing is read, and every level's number is 0
 pub begin-pass : (s : List ℕ) (base : ℕ) → Going s base 0 0 0 (replicate window 0)
 begin-pass s base = record {
@@ -63,9 +62,6 @@ begin-pass s base = record {
   where
     outermost : (i : ℕ) → base + i ≤ 0 → 0 ≡ 0 - (base + i)
     outermost i b = omega (arith, b)
-
-never : {A : Type 0} {x : List Symbol} → _≡_ {A = Option (List Symbol)} none (some x) → A
-never e = let z : _≡_ {A = ℕ} 0 1 = cc in absurd (omega arith)
 
 -- an inner level is not empty
 filled : (st : List Symbol) (c : ℕ) → c < 18 → leb 2 c ≡ true → isEmpty (segment c ++ st) ≡ false
@@ -163,7 +159,7 @@ module _ (s : List ℕ) (base : ℕ) (based : Based base) (at depth deepest : �
             least = place-within s;
             within = omega arith;
             stops = λ q. not-both (sym q);
-            exact = λ q b w. never (sym q ∙ ended);
+            exact = λ q b w. none-some (sym q ∙ ended);
             deep = sunk-at e v;
             whole = λ st q. let x = sym ended ∙ q in let y : stackOf (v .top ∷ v .below) ≡ st = cc in (reached v, λ z. d ∙ last v z ∙ ap isEmpty y);
           }
@@ -173,7 +169,7 @@ module _ (s : List ℕ) (base : ℕ) (based : Based base) (at depth deepest : �
         stops = λ q. not-both (sym q);
         exact = λ q b w. absurd (p .outside b w);
         deep = p .deep;
-        whole = λ st q. never (sym (p .runs) ∙ q);
+        whole = λ st q. none-some (sym (p .runs) ∙ q);
       }
 
   -- the array stays as long
@@ -188,7 +184,7 @@ module _ (s : List ℕ) (base : ℕ) (based : Based base) (at depth deepest : �
       go false false false = put-length base depth m arr (g .long)
 
   module _ (t : Token) (start end kind : ℕ) (n : Next s at t start end) (o : OfKind t kind) where
-    deeper-least : deeper depth kind ≤ suc depth
+    deeper-least : depthBy depth kind ≤ suc depth
     deeper-least = go (eqb kind 1) (eqb kind 2)
       where
         go : (a b : Bool) → cond a (suc depth) (cond b (depth - 1) depth) ≤ suc depth
@@ -213,7 +209,7 @@ module _ (s : List ℕ) (base : ℕ) (based : Based base) (at depth deepest : �
               stops = λ r. over;
               exact = λ r b w. (refl, here);
               deep = omega (arith, deep, v .size, g .bound);
-              whole = λ st r. never (sym over ∙ r);
+              whole = λ st r. none-some (sym over ∙ r);
             }
         go (inr p) = record {
           least = let b = n .behind in omega (arith, b, z, p .before);
@@ -221,7 +217,7 @@ module _ (s : List ℕ) (base : ℕ) (based : Based base) (at depth deepest : �
           stops = λ r. p .runs;
           exact = λ r b w. absurd (p .outside b w);
           deep = p .deep;
-          whole = λ st r. never (sym (p .runs) ∙ r);
+          whole = λ st r. none-some (sym (p .runs) ∙ r);
         }
 
     -- on a level that is held
@@ -253,7 +249,7 @@ module _ (s : List ℕ) (base : ℕ) (based : Based base) (at depth deepest : �
     -- the pass goes on: with the machine, or past it
     module _ (m : ℕ) (same : heldAt base depth ≡ true → m ≡ moveOf (levelIn base depth arr) (tokenCode t)) (free : heldAt base depth ≡ false → m ≡ 0) (taken : eqb m refusal ≡ false)
         (above : kind ≡ 2 → 0 < depth) where
-      live-on : Lives s base at depth arr → Lives s base end (deeper depth kind) (advanced base depth kind (levelIn base depth arr) m arr) ⊎ Past s base end (max deepest (deeper depth kind))
+      live-on : Lives s base at depth arr → Lives s base end (depthBy depth kind) (advanced base depth kind (levelIn base depth arr) m arr) ⊎ Past s base end (max deepest (depthBy depth kind))
       live-on v = go (move (c ∷ l) (tokenCode t)) refl
         where
           c : ℕ
@@ -269,7 +265,7 @@ module _ (s : List ℕ) (base : ℕ) (based : Based base) (at depth deepest : �
           moves = record { held = λ b w. same (rw (le-leb base depth b, lt-ltb (depth - base) window w)) ∙ ap (λ (x : ℕ). moveOf x (tokenCode t)) (level b w); free = free }
 
           go : (r : Option (List ℕ)) → move (c ∷ l) (tokenCode t) ≡ r
-              → Lives s base end (deeper depth kind) (advanced base depth kind (levelIn base depth arr) m arr) ⊎ Past s base end (max deepest (deeper depth kind))
+              → Lives s base end (depthBy depth kind) (advanced base depth kind (levelIn base depth arr) m arr) ⊎ Past s base end (max deepest (depthBy depth kind))
           go none e = inr (past (heldAt base depth) refl)
             where
               -- a refusal on a level that is held would have been seen
@@ -285,36 +281,37 @@ module _ (s : List ℕ) (base : ℕ) (based : Based base) (at depth deepest : �
               shared : place s ≡ start + front (stackOf (c ∷ l)) t
               shared = stops-at s at (c ∷ l) (v .alive) t start end n e
 
-              past : (a : Bool) → heldAt base depth ≡ a → Past s base end (max deepest (deeper depth kind))
+              past : (a : Bool) → heldAt base depth ≡ a → Past s base end (max deepest (depthBy depth kind))
               past true p = absurd (seen p)
               past false p = record {
                 before = let x = n .short (stackOf (c ∷ l)) in let y = n .filled in omega (arith, shared, x, y);
                 runs = stops-run s at (c ∷ l) (v .alive) t start end n e;
-                deep = let x = max-left deepest (deeper depth kind) in omega (arith, deep, v .size, g .bound, x);
+                deep = let x = max-left deepest (depthBy depth kind) in omega (arith, deep, v .size, g .bound, x);
                 outside = λ b w. unheld-apart base depth p (omega (arith, deep, v .size, b)) (omega (arith, deep, v .size, w));
               }
           go (some ls′) e =
               let q = follows base depth arr (g .long) based c l (v .size) (v .alive .formed) (v .held) t kind m ls′ o (n .coded) above moves e in
               inl (lives-on ls′ (goes-on s at (c ∷ l) (v .alive) t start end n ls′ e) (q .0) (q .1))
 
-      pub next-turn : Numbered (advanced base depth kind (levelIn base depth arr) m arr) → Going s base end (deeper depth kind) (max deepest (deeper depth kind)) (advanced base depth kind (levelIn base depth arr) m arr)
+      pub next-turn : Numbered (advanced base depth kind (levelIn base depth arr) m arr)
+          → Going s base end (depthBy depth kind) (max deepest (depthBy depth kind)) (advanced base depth kind (levelIn base depth arr) m arr)
       next-turn u = record {
         long = advanced-long kind (levelIn base depth arr) m;
         numbers = u;
-        bound = max-right deepest (deeper depth kind);
-        passed = let x = n .behind in let y = n .filled in max-below deepest (deeper depth kind) end (omega (arith, x, y, g .passed)) (omega (arith, x, y, deeper-least, g .bound, g .passed));
+        bound = max-right deepest (depthBy depth kind);
+        passed = let x = n .behind in let y = n .filled in max-below deepest (depthBy depth kind) end (omega (arith, x, y, g .passed)) (omega (arith, x, y, deeper-least, g .bound, g .passed));
         within = n .within;
         state = go (g .state);
       }
         where
           go : Lives s base at depth arr ⊎ Past s base at deepest
-              → Lives s base end (deeper depth kind) (advanced base depth kind (levelIn base depth arr) m arr) ⊎ Past s base end (max deepest (deeper depth kind))
+              → Lives s base end (depthBy depth kind) (advanced base depth kind (levelIn base depth arr) m arr) ⊎ Past s base end (max deepest (depthBy depth kind))
           go (inl v) = live-on v
           go (inr p) = inr (
               record {
                 before = let x = n .behind in let y = n .filled in omega (arith, x, y, p .before);
                 runs = p .runs;
-                deep = let x = max-left deepest (deeper depth kind) in omega (arith, x, p .deep);
+                deep = let x = max-left deepest (depthBy depth kind) in omega (arith, x, p .deep);
                 outside = p .outside;
               }
               )

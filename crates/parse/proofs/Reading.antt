@@ -1,24 +1,23 @@
 -- The next token of a text, as the lexemes and the vocabulary give it. Assumes nothing.
 use mathlib.Core.Path.{_≡_, refl, sym, ap, subst, _∙_}
-use mathlib.Core.Bool.{true}
 use mathlib.Core.List.{List, [], _∷_, _++_}
-use mathlib.Core.Option.{Option, none, some}
+use mathlib.Core.Option.{none, some}
 use Prim.Native.Nat.{ℕ, zero, suc, _+_, _-_, _≤_, _<_}
 use native.Mathlib.Omega.{arith}
 use lib.ListN.{length, getD, drop}
 use lib.Seq.{drop-length}
-use Rattle.notation.specs.Words.{Word, noForm, between, role, roleOf, headOf}
+use Rattle.notation.specs.Words.{Word, noForm, between, role, roleOf}
 use Rattle.notation.specs.Grammar.{Token, opening, closing, word}
 use Rattle.notation.specs.Text.{Sort, left, right, sort, Plain, Apart}
 use Rattle.notation.proofs.Machine.{Symbol, step}
 use Rattle.notation.proofs.Lexing.{lex}
 use Rattle.notation.proofs.Place.{afterWord, reach}
-use Rattle.notation.proofs.Rules.{viable, viable-within, taken-from, refused-from}
+use Rattle.notation.proofs.Rules.{viable-within, taken-from, refused-from}
 use Rattle.lexemes.specs.declared.Lexeme.{Lexeme}
 use Rattle.lexemes.specs.Lexeme.{tokenBy, tokenOf, nextLexeme}
 use Rattle.lexemes.proofs.Laws.{next-within, next-end, next-token, next-word, next-opening, next-closing, next-reach, Behind, WordAt, BracketAt}
 use Rattle.vocabulary.specs.Codes.{codeOf, headByCode}
-use Rattle.vocabulary.proofs.Between.{length-between}
+use Rattle.notation.proofs.Between.{length-between}
 use Rattle.vocabulary.proofs.Laws.{code-limit, code-atom, code-binder, code-function, code-head}
 use Rattle.levels.proofs.Steps.{each, _▹_, roles, Coded, CodedToken}
 use Rattle.parse.proofs.Tokens.{front, Next}

@@ -1,16 +1,17 @@
 -- One token of a text: what it does to the levels, and where it is refused. Assumes nothing.
-use mathlib.Core.Path.{_≡_, refl, sym, ap, subst, _∙_}
-use mathlib.Core.List.{List, [], _∷_, _++_}
-use mathlib.Core.Option.{Option, none, some}
-use Prim.Native.Nat.{ℕ, suc, _+_, _-_, _≤_, _<_}
+use mathlib.Core.Path.{_≡_, refl, ap, _∙_}
+use mathlib.Core.List.{List, [], _∷_}
+use mathlib.Core.Option.{none, some}
+use Prim.Native.Nat.{ℕ, _+_, _-_, _≤_, _<_}
 use native.Mathlib.Omega.{arith}
 use lib.ListN.{length, drop}
 use Rattle.notation.specs.Grammar.{Token, opening, closing, word}
-use Rattle.notation.proofs.Machine.{Symbol, step, onward, run, start as outset}
+use Rattle.notation.proofs.Machine.{Symbol, step, run, start as outset}
 use Rattle.notation.proofs.Lexing.{lex}
 use Rattle.notation.proofs.Place.{reach, place}
 use Rattle.notation.proofs.Rules.{viable}
-use Rattle.levels.specs.Levels.{tokenCode, stackOf, move, Formed, levelsBy, levelsAt}
+use Rattle.vocabulary.specs.Codes.{tokenCode}
+use Rattle.levels.specs.Levels.{stackOf, move, Formed, levelsAt}
 use Rattle.parse.specs.Passed.{levels}
 use Rattle.levels.proofs.Steps.{CodedToken, stacked, step-moves}
 use Rattle.levels.proofs.Forms.{formed-move}

@@ -1,20 +1,21 @@
 -- The turns of a pass, by what the code reads: the lexeme r behind the place, the level c, the move m. Assumes nothing.
 use mathlib.Core.Path.{_≡_, refl, sym, ap, subst, _∙_}
 use mathlib.Core.Bool.{Bool, true, false, cond, _&&_}
-use mathlib.Core.List.{List, []}
+use mathlib.Core.List.{List}
 use Prim.Native.Nat.{ℕ, zero, suc, _+_, _-_, _≤_, _<_, max}
 use native.Mathlib.Omega.{arith}
-use lib.ListN.{length, getD}
+use lib.ListN.{getD}
 use lib.Dec.{eqb}
-use borrow.Author.Tests.{eqb-true, eqb-false, ne-eqb}
+use borrow.Author.Tests.{eqb-true, ne-eqb}
 use Rattle.notation.specs.Words.{Word, between}
-use Rattle.notation.proofs.Words.{not-both, both}
+use Rattle.decide.proofs.Picks.{not-both, both}
 use Rattle.lexemes.specs.declared.Lexeme.{Lexeme}
-use Rattle.lexemes.specs.Lexeme.{tokenOf, nextLexeme}
+use Rattle.lexemes.specs.Lexeme.{tokenOf, nextLexeme, depthBy}
 use Rattle.lexemes.proofs.Laws.{Behind}
-use Rattle.vocabulary.proofs.Between.{length-between}
-use Rattle.levels.specs.Levels.{tokenCode, refusal, moveOf, levelFront, window, unheld, heldAt, levelIn, advanced, deeper, kindCode, judged, kindFront, Numbered, Based}
-use Rattle.levels.proofs.Laws.{code-of, front-of, front-within, numbered-advanced}
+use Rattle.notation.proofs.Between.{length-between}
+use Rattle.vocabulary.specs.Codes.{tokenCode}
+use Rattle.levels.specs.Levels.{refusal, moveOf, levelFront, unheld, heldAt, levelIn, advanced, judged, kindFront, Numbered, Based}
+use Rattle.levels.proofs.Laws.{front-of, front-within, numbered-advanced}
 use Rattle.parse.specs.Passed.{Passed}
 use Rattle.parse.proofs.Passing.{Going, end-turn, refused-turn, outer-turn, next-turn}
 use Rattle.parse.proofs.Reading.{read, read-kind, read-within, read-end}
@@ -47,16 +48,13 @@ module _ (s : List ℕ) (base : ℕ) (based : Based base) (at depth deepest : �
       go false h = not-both (sym (ap (λ (k : ℕ). eqb k unheld) (free-number h)) ∙ q)
 
   module _ (z : r .kind ≡ 0 → ⊥) (m : ℕ) (em : m ≡ judged c (r .kind) (between (r .start) (r .end) s)) where
-    code : kindCode (r .kind) (between (r .start) (r .end) s) ≡ tokenCode (tokenOf s r)
-    code = code-of (r .kind) (between (r .start) (r .end) s)
-
-    by-level : (b : Bool) → eqb c unheld ≡ b → m ≡ cond b 0 (moveOf c (kindCode (r .kind) (between (r .start) (r .end) s)))
-    by-level b q = em ∙ ap (λ (b : Bool). cond b 0 (moveOf c (kindCode (r .kind) (between (r .start) (r .end) s)))) q
+    by-level : (b : Bool) → eqb c unheld ≡ b → m ≡ cond b 0 (moveOf c (tokenCode (tokenOf s r)))
+    by-level b q = em ∙ ap (λ (b : Bool). cond b 0 (moveOf c (tokenCode (tokenOf s r)))) q
 
     same : heldAt base depth ≡ true → m ≡ moveOf (levelIn base depth arr) (tokenCode (tokenOf s r))
     same h =
         let l = held-number h in
-        by-level false (ne-eqb c unheld (λ q. omega (arith, q, l))) ∙ ap (λ (k : ℕ). moveOf c k) code ∙ ap (λ (k : ℕ). moveOf k (tokenCode (tokenOf s r))) ec
+        by-level false (ne-eqb c unheld (λ q. omega (arith, q, l))) ∙ ap (λ (k : ℕ). moveOf k (tokenCode (tokenOf s r))) ec
 
     free : heldAt base depth ≡ false → m ≡ 0
     free h = by-level true (ap (λ (k : ℕ). eqb k unheld) (free-number h))
@@ -111,14 +109,14 @@ module _ (s : List ℕ) (base : ℕ) (based : Based base) (at depth deepest : �
         go zero x = not-both (sym (rw (k, x)) ∙ q)
         go (suc d) x = omega arith
 
-    pub turn-next : (m ≡ refusal → ⊥) → (eqb (r .kind) 2 && eqb depth 0) ≡ false → (d deepest′ : ℕ) (arr′ : List ℕ) → d ≡ deeper depth (r .kind)
+    pub turn-next : (m ≡ refusal → ⊥) → (eqb (r .kind) 2 && eqb depth 0) ≡ false → (d deepest′ : ℕ) (arr′ : List ℕ) → d ≡ depthBy depth (r .kind)
         → arr′ ≡ advanced base depth (r .kind) c m arr → deepest′ ≡ max deepest d → Going s base (r .end) d deepest′ arr′
     turn-next q o d deepest′ arr′ ed ea ex =
         let taken = ne-eqb m refusal q in
         let numbers = numbered-advanced base depth (r .kind) c m (between (r .start) (r .end) s) arr (g .numbers) small em taken (placed .kinds) kind-filled in
         subst (λ (k : ℕ). Going s base (r .end) d k arr′) (sym ex)
         (subst (λ (k : ℕ). Going s base (r .end) k (max deepest k) arr′) (sym ed)
-        (subst (λ (a : List ℕ). Going s base (r .end) (deeper depth (r .kind)) (max deepest (deeper depth (r .kind))) a) (sym (ea ∙ ap (λ (k : ℕ). advanced base depth (r .kind) k m arr) ec))
+        (subst (λ (a : List ℕ). Going s base (r .end) (depthBy depth (r .kind)) (max deepest (depthBy depth (r .kind))) a) (sym (ea ∙ ap (λ (k : ℕ). advanced base depth (r .kind) k m arr) ec))
         (next-turn s base based at depth deepest arr g (tokenOf s r) (r .start) (r .end) (r .kind) (read s at r (g .within) e z) (read-kind s at r (g .within) e z) m same free taken (above o)
         (subst (λ (k : ℕ). Numbered (advanced base depth (r .kind) k m arr)) ec numbers))))
       where

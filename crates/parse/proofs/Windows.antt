@@ -1,6 +1,6 @@
 -- The passes over a text, a window of levels each: together they find what the machine does. Assumes nothing.
 use mathlib.Core.Path.{_≡_, refl, sym, ap, _∙_}
-use mathlib.Core.Bool.{Bool, true, false, cond, _||_}
+use mathlib.Core.Bool.{Bool, true, false, _||_}
 use mathlib.Core.List.{List, [], _∷_}
 use mathlib.Core.Option.{Option, none, some}
 use Prim.Native.Nat.{ℕ, suc, _+_, _≤_, _<_, min}
@@ -8,12 +8,13 @@ use native.Mathlib.Omega.{arith}
 use lib.ListN.{length}
 use lib.Dec.{leb}
 use borrow.Author.Tests.{leb-true, leb-false}
-use Rattle.notation.proofs.Words.{not-both}
+use Rattle.decide.proofs.Picks.{not-both}
 use Rattle.notation.proofs.Machine.{Symbol, run, start as outset}
 use Rattle.notation.proofs.Lexing.{lex}
 use Rattle.notation.proofs.Place.{place}
 use Rattle.notation.specs.Grammar.{Token}
-use Rattle.levels.specs.Levels.{tokenCode, move, Formed, levelsBy, levelsAt, window}
+use Rattle.vocabulary.specs.Codes.{tokenCode}
+use Rattle.levels.specs.Levels.{move, Formed, levelsBy, levelsAt, window}
 use Rattle.levels.proofs.Forms.{formed-move}
 use Rattle.parse.proofs.Reading.{coded}
 use Rattle.parse.specs.Passed.{levels, isEmpty, Passed, ends}

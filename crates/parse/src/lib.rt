@@ -1,7 +1,7 @@
 // Refusal 19: whether a text is in the grammar, and how much of it begins one that is. The machine that tells it has a stack as deep as the brackets nest; a pass over the text holds a
 // window of its levels, and there are as many passes as windows.
 ghost use mathlib.Core.Path.{_≡_};
-ghost use mathlib.Core.Bool.{_&&_};
+ghost use mathlib.Core.Bool.{true, false, _&&_};
 ghost use lib.Dec.{eqb};
 ghost use Rattle.notation.proofs.Machine.{run, start as outset};
 ghost use Rattle.notation.proofs.Lexing.{lex};
@@ -43,6 +43,18 @@ fn too_many(kind: u8, depth: usize) -> bool
     false
 }
 
+// What a pass found that refused a token.
+fn refusing(place: usize, deepest: usize) -> Window
+    ensures { λ r. ⌜ (r .refused ≡ true) × (r .place ≡ place) × (r .deepest ≡ deepest) × (r .done ≡ false) ⌝ }
+{
+    Window {
+        refused: true,
+        place: place,
+        deepest: deepest,
+        done: false,
+    }
+}
+
 // A pass that holds the levels from `base` on.
 fn pass(s: &[u8], base: usize) -> Window
     requires { ⌜ Based base ⌝ }
@@ -70,20 +82,10 @@ fn pass(s: &[u8], base: usize) -> Window
         let m = levels::judge(s, c, kind, start, end);
         if m == levels::REFUSED {
             let n = levels::front(s, c, kind, start, end);
-            return Window {
-                refused: true,
-                place: start + n,
-                deepest: deepest,
-                done: false,
-            };
+            return refusing(start + n, deepest);
         }
         if too_many(kind, depth) {
-            return Window {
-                refused: true,
-                place: start,
-                deepest: deepest,
-                done: false,
-            };
+            return refusing(start, deepest);
         }
         depth = levels::advance(&mut levels, base, depth, kind, c, m);
         if deepest < depth {

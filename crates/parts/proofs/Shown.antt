@@ -5,8 +5,9 @@ use Prim.Native.Nat.{ℕ}
 use Rattle.notation.specs.Words.{ascii, isLetter, isDigit, nameByte, isName, reserved, ownName, operator, isCount, isNegative, isNumber, indexOf, bitsOf, headOf}
 use Rattle.notation.specs.Text.{sort}
 use Rattle.vocabulary.specs.Codes.{codeOf}
-use Rattle.bindings.specs.Scan.{modeAfter, wordsIn, headsIn, repAround}
-use Rattle.bindings.specs.Meaning.{meaningAt}
+use Rattle.token_scans.specs.Scan.{modeAfter, wordsIn, headsIn}
+use Rattle.rep_around.specs.Around.{repAround}
+use Rattle.rep_around.specs.Meaning.{meaningAt}
 use Rattle.parts.specs.Bytes.{wordBytes, formBytes}
 
 abbrev text : List ℕ

@@ -6,7 +6,7 @@ use Rattle.notation.specs.Words.{between, headOf}
 use Rattle.notation.specs.Grammar.{nil, bare}
 use Rattle.notation.proofs.Lexing.{lex}
 use Rattle.translation.specs.Numbering.{formPart}
-use Rattle.bindings.specs.Scan.{definitionsIn}
+use Rattle.token_scans.specs.Scan.{definitionsIn}
 use Rattle.tabling.specs.Emit.{wordPart, givenIn}
 use Rattle.tabling.specs.Fields.{flatBytes}
 use Rattle.parts.specs.declared.Form.{Form}

@@ -5,7 +5,7 @@ ghost use lib.ListN.{length, take};
 ghost use Rattle.notation.specs.Words.{between, indexOf, isNumber};
 ghost use Rattle.notation.proofs.Lexing.{lex};
 ghost use Rattle.translation.specs.Numbering.{byte, foldPart};
-ghost use Rattle.bindings.specs.Scan.{definitionsIn, slotsIn, repsIn};
+ghost use Rattle.token_scans.specs.Scan.{definitionsIn, slotsIn, repsIn};
 ghost use Rattle.tabling.specs.Fields.{flatBytes};
 ghost use Rattle.table_writer.specs.Grown.{Room, Held, Grown};
 ghost use Rattle.parts.specs.Bytes.{Within, wordBytes, formBytes};
@@ -56,7 +56,7 @@ pub fn put_word(
     if is_number(s, a, b) {
         return table_writer::constant(out, len, vocabulary::bits(s, a, b));
     }
-    let m = bindings::meaning_of(s, top, a, b);
+    let m = rep_around::meaning_of(s, top, a, b);
     let n = byte_of(m.number);
     if m.bound {
         return table_writer::leaf(out, len, 2, n);
@@ -69,21 +69,21 @@ fn slot(s: &[u8], start: usize) -> u8
     requires { ⌜ start ≤ length (now s) ⌝ }
     ensures { λ r. ⌜ r ≡ byte (suc (slotsIn (lex (take start (now (s .entry)))))) ⌝ }
 {
-    byte_of(bindings::slots_in(s, 0, start) + 1)
+    byte_of(token_scans::slots_in(s, 0, start) + 1)
 }
 
 fn variable(s: &[u8], start: usize) -> u8
     requires { ⌜ start ≤ length (now s) ⌝ }
     ensures { λ r. ⌜ r ≡ byte (repsIn (lex (take start (now (s .entry))))) ⌝ }
 {
-    byte_of(bindings::reps_in(s, 0, start))
+    byte_of(token_scans::reps_in(s, 0, start))
 }
 
 fn definition(s: &[u8], top: usize, a: usize, b: usize) -> u8
     requires { ⌜ (top ≤ length (now s)) × (a ≤ b) × (b ≤ length (now s)) ⌝ }
     ensures { λ r. ⌜ r ≡ byte (indexOf (between a b (now (s .entry))) (definitionsIn (lex (take top (now (s .entry)))))) ⌝ }
 {
-    let f = bindings::definition_of(s, top, a, b);
+    let f = token_scans::definition_of(s, top, a, b);
     byte_of(f.index)
 }
 

@@ -18,7 +18,8 @@ unfolding opened
 each-age = (refl, refl)
 
 -- outside 0 to 2, where no sound network is, the same sum decides
-other-ages : (map older (pos 3 ∷ inf ∷ neg 1 ∷ neg 5 ∷ floor ∷ []) ≡ mark ∷ mark ∷ pos 0 ∷ neg 4 ∷ neg 2147483646 ∷ []) × (map fades (pos 3 ∷ inf ∷ neg 1 ∷ floor ∷ []) ≡ true ∷ true ∷ false ∷ false ∷ [])
+other-ages : (map older (pos 3 ∷ inf ∷ neg 1 ∷ neg 5 ∷ floor ∷ []) ≡ mark ∷ mark ∷ pos 0 ∷ neg 4 ∷ neg 2147483646 ∷ [])
+    × (map fades (pos 3 ∷ inf ∷ neg 1 ∷ floor ∷ []) ≡ true ∷ true ∷ false ∷ false ∷ [])
 unfolding opened
 other-ages = (refl, refl)
 

@@ -13,7 +13,8 @@ use Rattle.program.specs.Table.{among, nodeLimit}
 use Rattle.decide.proofs.Picks.{neither}
 use Rattle.program.specs.Tree.{nothing, misread}
 use Rattle.bits.specs.Bits.{hasBit, allBits}
-use Rattle.bits.proofs.Bits.{all-below, same, same-eq, no-bit, or-bit, own-bit, bit-stays, no-high}
+use Rattle.decide.proofs.Below.{all-below}
+use Rattle.bits.proofs.Bits.{same, same-eq, no-bit, or-bit, own-bit, bit-stays, no-high}
 use Rattle.words.specs.Form.{constantForm, parameterForm, operatorForm}
 use Rattle.words.specs.Word.{form, item, word}
 use Rattle.words.specs.Trees.{treeAt}

@@ -9,13 +9,12 @@ use lib.ListN.{length, length-append}
 use lib.Dec.{eqb, leb, ltb}
 use borrow.Author.Tests.{eqb-true, eqb-false, leb-false, ltb-true}
 use Rattle.wire.specs.Wire.{fieldsIn, fieldsOf}
-use Rattle.program.specs.Table.{Table, Loaded, refused, unless, RefusalRows, firstOf, nodeRows, definitionRows, nodeOf, withNode, withDefinition, nodeLimit, definitionLimit, entryOf}
-use Rattle.program.specs.Table.{loadFrom, load}
+use Rattle.program.specs.Table.{Table, Loaded, refused, unless, RefusalRows, firstOf, nodeRows, definitionRows, nodeOf, withNode, withDefinition, nodeLimit, definitionLimit, entryOf, loadFrom}
+use Rattle.program.specs.Table.{load, items}
 use Rattle.program.specs.Check.{treeRows, check}
 use Rattle.program.specs.Conditions.{Part, node, define, itemsBytes, partBytes, programBytes, nodesOf, definitionsOf}
-use Rattle.program.specs.Table.{items}
 use Rattle.program.proofs.Fields.{first-field}
-use Rattle.notation.proofs.Words.{both}
+use Rattle.decide.proofs.Picks.{both}
 use Rattle.tabling.specs.Fields.{fieldsBytes, Overfull}
 
 abbrev rowsOf : Table → Part → RefusalRows

@@ -6,14 +6,14 @@ use Prim.Native.Nat.{ℕ, suc, _-_}
 use native.Mathlib.Omega.{arith}
 use lib.ListN.{length}
 use Rattle.notation.specs.Words.{Word, sameWord, theDef, definition, headOf, role}
-use Rattle.notation.specs.Grammar.{Token, opening, closing, word, Tree, leaf, form, Items, Def, Program, tokens, itemTokens, nameTokens, defTokens, defsTokens, programTokens}
-use Rattle.notation.specs.Grammar.{Fine, FineDef, FineDefs, FineProgram}
+use Rattle.notation.specs.Grammar.{Token, opening, closing, word, Tree, leaf, form, Items, Def, Program, tokens, itemTokens, nameTokens, defTokens, defsTokens, programTokens, Fine, FineDef}
+use Rattle.notation.specs.Grammar.{FineDefs, FineProgram}
 use Rattle.notation.proofs.Words.{same-word, role-def}
 use Rattle.program.specs.Conditions.{Part, define as aDefinition}
 use Rattle.translation.specs.Names.{isRep}
 use Rattle.translation.specs.Numbering.{byte, Given, none, hasSlot, after, parts, parameters, programParts, programAfter}
-use Rattle.bindings.specs.Scan.{modeAfter, wordsIn, headsIn, definitionsIn, parametersIn, slotsIn, repsIn}
-use Rattle.bindings.proofs.Codes.{head-facts, slotCode, repCode}
+use Rattle.token_scans.specs.Scan.{modeAfter, wordsIn, headsIn, definitionsIn, parametersIn, slotsIn, repsIn}
+use Rattle.token_scans.proofs.Codes.{head-facts, slotCode, repCode}
 use Rattle.bindings.proofs.Modes.{modesAfter, modes-append, words-append, defFront, def-parts, front-passed, def-passed, slots-passed, reps-passed, slots-after, variables-after}
 use Rattle.bindings.proofs.Around.{seen-first, seen-body}
 use Rattle.bindings.proofs.Meanings.{heads-on}

@@ -7,10 +7,10 @@ use native.Mathlib.Omega.{arith}
 use lib.Dec.{eqb}
 use lib.ListN.{length, replicate}
 use borrow.Author.Tests.{eqb-true}
-use Rattle.notation.specs.Words.{Word, every, lookup, isNumber, bitsOf, operator, operators, indexOf, ownName, Piece, anExpression, aBinder, aFunction, Head, plain, slotted, operation, rep}
-use Rattle.notation.specs.Words.{fold, define, call, nothing, headWords, headOf, Role, fixed, calls, definition, noForm, roleOf, role, sameWord}
+use Rattle.notation.specs.Words.{Word, every, lookup, isNumber, bitsOf, operator, operators, indexOf, ownName, Piece, anExpression, aBinder, aFunction, Head, plain, slotted, operation, rep, fold}
+use Rattle.notation.specs.Words.{define, call, nothing, headWords, headOf, Role, fixed, calls, definition, noForm, roleOf, role, sameWord}
 use Rattle.notation.specs.Grammar.{Tree, Items, nil, expr, bare, Def, Program, byRole, Fine, Fits, Exprs, FineDefs, FineProgram}
-use Rattle.notation.proofs.Words.{not-both, both}
+use Rattle.decide.proofs.Picks.{not-both, both}
 use Rattle.program.specs.Table.{Item, constant, operator as anOperator, parameter as aParameter, variable as aVariable, keeps, slot, child, definition as aDefinitionItem, itemsOf}
 use Rattle.program.specs.Conditions.{Part, itemBytes, itemsBytes, partBytes}
 use Rattle.translation.specs.Names.{binding}

@@ -14,8 +14,8 @@ use Rattle.program.specs.Table.{Node, Definition, constant}
 use Rattle.program.specs.Check.{check}
 use Rattle.program.specs.Conditions.{Part, node as aNode, define as aDefinition, fieldBytes, itemBytes, nodesOf, definitionsOf, programBytes}
 use Rattle.translation.specs.Numbering.{byte, Given, Meaning, parameter, variable, ofKind, meantBy, formPart, programParts, programAfter, none as nothing-given, table}
-use Rattle.bindings.specs.Scan.{definitionsIn, parametersIn, repsIn}
-use Rattle.bindings.specs.Meaning.{meaningAt}
+use Rattle.token_scans.specs.Scan.{definitionsIn, parametersIn, repsIn}
+use Rattle.rep_around.specs.Meaning.{meaningAt}
 use Rattle.tabling.specs.Fields.{fieldsBytes, flatBytes, flatFields, Overfull}
 use Rattle.tabling.specs.Emit.{Output, State, Around, withNode, withDefinition, wordPart, around, leads, givenIn, closeForm, isDefinition, emitted, taken, step, emit, start}
 use Rattle.tabling.proofs.Cut.{overfull-check, fields-check, program-fields}

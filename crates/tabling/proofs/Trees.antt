@@ -13,8 +13,8 @@ use Rattle.notation.specs.Grammar.{Token, opening, closing, word, Tree, leaf, f
 use Rattle.program.specs.Conditions.{Part}
 use Rattle.translation.specs.Names.{isRep, binding}
 use Rattle.translation.specs.Numbering.{byte, Given, variable, Scope, hasSlot, leafPart, after, afterItems, entered, operands, formPart, parts, itemsParts}
-use Rattle.bindings.specs.Scan.{modeAfter, headsIn, definitionsIn, slotsIn, repsIn}
-use Rattle.bindings.proofs.Codes.{headMode, head-facts, slotCode, repCode}
+use Rattle.token_scans.specs.Scan.{modeAfter, headsIn, definitionsIn, slotsIn, repsIn}
+use Rattle.token_scans.proofs.Codes.{headMode, head-facts, slotCode, repCode}
 use Rattle.bindings.proofs.Trees.{Each, by-trees, each-of, Shape, plainly, folding, repeating, shape-of}
 use Rattle.bindings.proofs.Modes.{modesAfter, modes-append, leadTokens, no-lead, lead-front, slots-after, variables-after}
 use Rattle.bindings.proofs.Around.{Trail, Seen, Row, exprCount, form-row}

@@ -10,8 +10,10 @@ use Rattle.notation.specs.Words.{Word, sameWord, isNumber, bitsOf, theDef, Head
 use Rattle.notation.specs.Grammar.{Token, opening, closing, word, nil, bare}
 use Rattle.program.specs.Conditions.{Part, define as aDefinition}
 use Rattle.translation.specs.Numbering.{byte, Given, ofKind, meantBy, formPart}
-use Rattle.bindings.specs.Scan.{tokenCode, modeAfter, definitionsIn, parametersIn, slotsIn, repsIn}
-use Rattle.bindings.specs.Meaning.{meaningAt}
+use Rattle.lexemes.specs.Lexeme.{depthAfter}
+use Rattle.vocabulary.specs.Codes.{tokenCode}
+use Rattle.token_scans.specs.Scan.{modeAfter, definitionsIn, parametersIn, slotsIn, repsIn}
+use Rattle.rep_around.specs.Meaning.{meaningAt}
 
 -- what was emitted; the numbers of the nodes that no node names yet, the last first; how many nodes there are
 pub record Output : Type 0 where
@@ -110,11 +112,6 @@ beforeAt (suc depth) before here = before
 abbrev pub hereAt : ℕ → List Token → List Token
 hereAt zero here = []
 hereAt (suc depth) here = here
-
-abbrev pub depthAfter : ℕ → Token → ℕ
-depthAfter depth opening = suc depth
-depthAfter depth closing = depth - 1
-depthAfter depth (word w) = depth
 
 -- one token, which stands behind `before` and `here`
 unfoldable pub taken : List Token → List Token → ℕ → ℕ → Output → Token → State

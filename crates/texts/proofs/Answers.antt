@@ -1,6 +1,6 @@
 -- Each answer of the reader is the one that the definitions give. Assumes nothing.
 use mathlib.Core.Path.{_≡_, refl, sym, ap, _∙_}
-use mathlib.Core.Bool.{Bool, true, false, not, cond}
+use mathlib.Core.Bool.{Bool, true, false}
 use mathlib.Core.List.{List, [], _∷_, _++_}
 use mathlib.Core.Option.{Option, none, some}
 use Prim.Native.Nat.{ℕ, _≤_, _<_}
@@ -12,14 +12,14 @@ use borrow.Author.Tests.{ne-eqb, lt-ltb, le-ltb}
 use Rattle.program.specs.Check.{Verdict, check}
 use Rattle.notation.specs.Grammar.{Program, programTokens, FineProgram}
 use Rattle.notation.specs.Text.{Spaced, Text}
-use Rattle.notation.proofs.Words.{not-both}
+use Rattle.decide.proofs.Picks.{not-both}
 use Rattle.notation.proofs.Machine.{Symbol, run, start as outset, programs-exactly}
 use Rattle.notation.proofs.Lexing.{lex, spaced-exactly}
 use Rattle.notation.proofs.Place.{place, texts-exactly, place-longest}
 use Rattle.translation.specs.Names.{namesGood}
 use Rattle.translation.specs.Numbering.{table}
 use Rattle.translation.specs.Reads.{compiled, Reads}
-use Rattle.parse.specs.Passed.{isEmpty, ends}
+use Rattle.parse.specs.Passed.{ends}
 use Rattle.bindings.specs.Good.{namesPass}
 use Rattle.bindings.proofs.Names.{names-exactly}
 use Rattle.compile.specs.Writes.{Compiles}
@@ -81,7 +81,8 @@ module _ (s out : List ℕ) (ok : Bool) (e : ok ≡ ends (run outset (lex s))) (
     checked p f l = ev ∙ c .same p f l
 
     pub unsound : (v .0 ≡ 0 → ⊥) → Reads s out v out
-    unsound x = inside v out (λ p f l. sym (by-check p out (names p f l ∙ z) (ne-eqb (check (table p) .0) 0 (λ q. x (ap (λ (u : Verdict). u .0) (checked p f l) ∙ q))) ∙ ap (λ (u : Verdict). (u, out)) (sym (checked p f l))))
+    unsound x = inside v out (λ p f l. sym (by-check p out (names p f l ∙ z) (ne-eqb (check (table p) .0) 0 (λ q. x (ap (λ (u : Verdict). u .0) (checked p f l) ∙ q)))
+        ∙ ap (λ (u : Verdict). (u, out)) (sym (checked p f l))))
 
     module _ (x : v .0 ≡ 0) where
       same : (p : Program) → FineProgram p → lex s ≡ programTokens p → take k bytes ≡ table p

@@ -48,5 +48,5 @@ pub fn read_text(text: &[u8], table: &mut [u8]) -> verdict::Verdict
         return verdict::refused(13, 0);
     }
     copy(&out, n, table);
-    verdict::refused(0, n)
+    verdict::done(n)
 }

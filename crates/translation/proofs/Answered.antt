@@ -3,10 +3,10 @@ use mathlib.Core.Path.{_≡_, refl, sym, ap, _∙_}
 use mathlib.Core.List.{List, [], _∷_}
 use mathlib.Core.Option.{Option, none, some}
 use mathlib.Core.Logic.{_⊎_, inl, inr}
-use Prim.Native.Nat.{ℕ, _≤_}
+use Prim.Native.Nat.{ℕ}
 use native.Mathlib.Omega.{arith}
-use Rattle.notation.specs.Grammar.{Token, Program, programTokens, FineProgram}
-use Rattle.notation.specs.Text.{Spaced, Text, Longest}
+use Rattle.notation.specs.Grammar.{Program, programTokens, FineProgram}
+use Rattle.notation.specs.Text.{Text, Longest}
 use Rattle.notation.proofs.Machine.{Symbol, run, start}
 use Rattle.notation.proofs.Lexing.{lex, spaced-exactly}
 use Rattle.notation.proofs.Place.{texts-exactly, place, place-longest}
@@ -28,16 +28,23 @@ refused {s} {out} n = record {
   unspelt = λ m. (refl, place-longest s, refl);
 }
 
-text-or-none : (s : List ℕ) → Text s ⊎ (run start (lex s) ≡ some [] → ⊥)
-text-or-none s = go (run start (lex s)) refl
+taken-or-not : (s : List ℕ) → Text s ⊎ (run start (lex s) ≡ some [] → ⊥)
+taken-or-not s = go (run start (lex s)) refl
   where
     go : (o : Option (List Symbol)) → run start (lex s) ≡ o → Text s ⊎ (run start (lex s) ≡ some [] → ⊥)
     go none e = inr (λ q. let z : _≡_ {A = ℕ} 0 1 = cc in omega arith)
     go (some []) e = inl (texts-exactly s .1 e)
     go (some (x ∷ st)) e = inr (λ q. let z : _≡_ {A = ℕ} 0 1 = cc in omega arith)
 
+pub text-or-none : (s : List ℕ) → Text s ⊎ (Text s → ⊥)
+text-or-none s = go (taken-or-not s)
+  where
+    go : Text s ⊎ (run start (lex s) ≡ some [] → ⊥) → Text s ⊎ (Text s → ⊥)
+    go (inl t) = inl t
+    go (inr n) = inr (λ t. n (texts-exactly s .0 t))
+
 pub reads-some : (s out : List ℕ) → (r : Verdict) × (out′ : List ℕ) × Reads s out r out′
-reads-some s out = go (text-or-none s)
+reads-some s out = go (taken-or-not s)
   where
     go : Text s ⊎ (run start (lex s) ≡ some [] → ⊥) → (r : Verdict) × (out′ : List ℕ) × Reads s out r out′
     go (inl t) =
@@ -49,7 +56,7 @@ longest-one : {s : List ℕ} (j k : ℕ) → Longest s j → Longest s k → j �
 longest-one j k a b = let h = b .longest j (a .within) (a .begins) in let g = a .longest k (b .within) (b .begins) in omega arith
 
 pub reads-one : {s out : List ℕ} {r r′ : Verdict} {o o′ : List ℕ} → Reads s out r o → Reads s out r′ o′ → (r ≡ r′) × (o ≡ o′)
-reads-one {s} {out} {r} {r′} {o} {o′} a b = go (text-or-none s)
+reads-one {s} {out} {r} {r′} {o} {o′} a b = go (taken-or-not s)
   where
     go : Text s ⊎ (run start (lex s) ≡ some [] → ⊥) → (r ≡ r′) × (o ≡ o′)
     go (inl t) =

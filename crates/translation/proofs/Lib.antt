@@ -1,4 +1,5 @@
 pub mod Answered
+pub mod Exact
 pub mod Parsed
 pub mod Shown
 pub mod ShownTables

@@ -5,11 +5,9 @@ use mathlib.Core.List.{List, [], _∷_}
 use mathlib.Core.Option.{Option, none, some}
 use Prim.Native.Nat.{ℕ, zero, suc}
 use lib.ListN.{length, drop, getD}
-use Rattle.notation.specs.Words.{Word, sameWord, Piece, anExpression, aBinder, aFunction, Role, fixed, calls, definition, noForm, theDef, theRep, theFold}
-use Rattle.notation.specs.Words.{atom, binder, function, role}
-use Rattle.notation.specs.Grammar.{Token, opening, closing, word, Tree, leaf, form, Items, nil, expr, bare, Def, Program}
-use Rattle.notation.specs.Grammar.{byRole, Fine, Fits, Exprs, Names, FineDef, FineDefs, FineProgram}
-use Rattle.notation.proofs.Words.{not-both}
+use Rattle.notation.specs.Words.{Word, sameWord, Piece, anExpression, aBinder, aFunction, Role, fixed, calls, definition, noForm, theDef, theRep, theFold, atom, binder, function, role}
+use Rattle.notation.specs.Grammar.{Token, opening, closing, word, Tree, leaf, form, Items, nil, expr, bare, Def, Program, byRole, Fine, Fits, Exprs, Names, FineDef, FineDefs, FineProgram}
+use Rattle.decide.proofs.Picks.{not-both}
 use Rattle.notation.proofs.Lexing.{lex}
 
 -- ---- the tree of a text, to be held against its words; n is at least the number of tokens

@@ -1,5 +1,5 @@
 -- What the examples of this crate compute with, and what shows a text's answer. Assumes nothing.
-use mathlib.Core.Path.{_≡_, refl, sym, ap, _∙_}
+use mathlib.Core.Path.{_≡_, refl, sym}
 use mathlib.Core.Bool.{Bool, true, false, not, cond}
 use mathlib.Core.List.{List, [], _∷_, _++_, map}
 use Prim.Native.Nat.{ℕ}
@@ -7,8 +7,8 @@ use Prim.Native.String.{String}
 use lib.Dec.{eqb, ltb}
 use lib.ListN.{length, drop}
 use Rattle.notation.specs.Words.{ascii, every}
-use Rattle.notation.specs.Grammar.{Token, Program, programTokens}
-use Rattle.notation.proofs.Words.{both}
+use Rattle.notation.specs.Grammar.{Program, programTokens}
+use Rattle.decide.proofs.Picks.{both}
 use Rattle.notation.proofs.Lexing.{lex}
 use Rattle.notation.proofs.Shown.{opened as notation}
 use Rattle.program.proofs.Shown.{opened as program}

@@ -1,9 +1,9 @@
--- Slots and variables past their range, calls with other operands than parameters, by computation. Assumes nothing.
+-- Slots, variables, nodes, definitions and costs past their limits, calls with other operands than parameters, and other refusals of the table, by computation. Assumes nothing.
 use mathlib.Core.Path.{_≡_, refl}
 use mathlib.Core.List.{List, [], _∷_, _++_}
-use Prim.Native.Nat.{ℕ, zero, suc}
+use Prim.Native.Nat.{ℕ, zero, suc, _+_, _/_, _%_}
 use Rattle.notation.specs.Words.{ascii}
-use Rattle.notation.specs.Grammar.{Tree, leaf, form, nil, expr, bare, Program}
+use Rattle.notation.specs.Grammar.{Tree, leaf, form, nil, expr, bare}
 use Rattle.translation.specs.Numbering.{Given, ofKind, parts, table}
 use Rattle.translation.specs.Reads.{compiled}
 use Rattle.translation.proofs.Parsed.{programOf}
@@ -43,6 +43,11 @@ within (suc n) f t = f (within n f t)
 abbrev given : Given
 given = record { slots = 256; variables = 256; nodes = 0 }
 
+-- the innermost of 257 reps, each in the initial part of the next, has the 257th variable: the node that reads it is field 1
+variable-257 : compiled (record { defs = []; main = within 257 (λ t. form (ascii "rep") (bare (ascii "x") (expr t (expr (leaf (ascii "x")) nil)))) (leaf (ascii "0")) }) [] ≡ ((3, 1), [])
+unfolding opened
+variable-257 = refl
+
 slot-257 : compiled (record { defs = []; main = within 257 (λ t. form (ascii "nbr") (expr t nil)) (leaf (ascii "1")) }) [] ≡ ((3, 1), [])
 unfolding opened
 slot-257 = refl
@@ -72,3 +77,21 @@ uses = (all-refused _ _ (refl, refl) refl refl, all-refused _ _ (refl, refl) ref
 node-257 : Refused (ascii "(def f () 1) (f " ++ times 256 (ascii "1 ") ++ ascii ")") (2, 257)
 unfolding opened
 node-257 = refuses _ _ (refl, refl) refl refl
+
+-- 32 definitions pass, the 33rd is 2 at its field, behind its body. Their names are d and two letters more
+abbrev definitions : ℕ → List ℕ
+definitions zero = []
+definitions (suc n) = definitions n ++ (ascii "(def d" ++ (97 + n % 26) ∷ (97 + n / 26) ∷ ascii " () 1)")
+
+definition-33 : Gives (definitions 32 ++ ascii "1") (table (programOf (definitions 32 ++ ascii "1"))) × Refused (definitions 33 ++ ascii "1") (2, 65)
+unfolding opened
+definition-33 = (gives _ _ (refl, refl) refl refl refl, refuses _ _ (refl, refl) refl refl)
+
+-- "then table refusals with theirs", also the last of them: behind n doublings a call costs 4 times the n-th power of two, less 2: 524,286 and 1,048,574
+abbrev doubled : ℕ → List ℕ
+doubled zero = ascii "(def a () 1)"
+doubled (suc n) = doubled n ++ (ascii "(def " ++ (98 + n) ∷ ascii " () (+ (" ++ (97 + n) ∷ ascii ") (" ++ (97 + n) ∷ ascii ")))")
+
+too-costly : Gives (doubled 17 ++ ascii "(r)") (table (programOf (doubled 17 ++ ascii "(r)"))) × Refused (doubled 18 ++ ascii "(s)") (10, 0)
+unfolding opened
+too-costly = (gives _ _ (refl, refl) refl refl refl, refuses _ _ (refl, refl) refl refl)

@@ -1,6 +1,6 @@
 -- Which names resolve: refusal 20, by computation. Assumes nothing.
-use mathlib.Core.Path.{_≡_, refl}
-use mathlib.Core.List.{List, [], _∷_}
+use mathlib.Core.Path.{refl}
+use mathlib.Core.List.{[], _∷_}
 use Rattle.translation.proofs.Shown.{opened, AllRefused, all-refused, AllAccepted, all-accepted}
 
 -- "a head or fold's function to an earlier definition, others to the nearest binder"; "an unresolved .. name 20"

@@ -1,16 +1,24 @@
 -- What reading a text answers and leaves in the slice, and in which order it refuses, by computation. Assumes nothing.
-use mathlib.Core.Path.{_≡_, refl}
+use mathlib.Core.Path.{_≡_, refl, sym, ap, _∙_}
+use mathlib.Core.Bool.{Bool, true}
 use mathlib.Core.List.{List, [], _∷_, _++_}
-use Prim.Native.Nat.{ℕ, _≤_}
+use Prim.Native.Nat.{ℕ}
 use native.Mathlib.Omega.{arith}
 use lib.ListN.{replicate}
 use Rattle.notation.specs.Words.{ascii}
-use Rattle.notation.specs.Grammar.{leaf, Program}
+use Rattle.notation.specs.Grammar.{leaf, Program, programTokens}
 use Rattle.notation.specs.Text.{Longest, spell, over}
+use Rattle.decide.proofs.Picks.{not-both}
+use Rattle.notation.proofs.Lexing.{lex, spaced-exactly}
+use Rattle.notation.proofs.Unique.{one-program}
 use Rattle.notation.proofs.Shown.{outside-longest}
-use Rattle.program.specs.Check.{Verdict}
+use Rattle.program.specs.Check.{Verdict, check}
+use Rattle.translation.specs.Names.{namesGood}
+use Rattle.translation.specs.Numbering.{table}
+use Rattle.translation.specs.Accepted.{Accepted}
 use Rattle.translation.specs.Reads.{compiled, Reads}
 use Rattle.translation.proofs.Answered.{refused}
+use Rattle.translation.proofs.Parsed.{programOf, isFine, fine-program}
 use Rattle.translation.proofs.Shown.{opened, reads-as}
 
 -- the table of the text "1", twelve bytes
@@ -50,3 +58,23 @@ of-a-text r out out′ h = h .spelt (record { defs = []; main = leaf (ascii "1")
 of-no-text : (r : Verdict) (out out′ : List ℕ) → Reads (ascii "(1") out r out′ → (r .0 ≡ 19) × Longest (ascii "(1") (r .1) × (out′ ≡ out)
 unfolding opened
 of-no-text r out out′ h = h .unspelt (outside-longest (ascii "(1") 1 refl .0)
+
+-- "Text is accepted exactly when it is in the grammar, its names resolve .., and the resulting table passes the check"
+accepted : Accepted (ascii "(def f (a) a) (f 1)")
+unfolding opened
+accepted =
+    let s : List ℕ = ascii "(def f (a) a) (f 1)" in
+    record { program = programOf s; fine = fine-program (programOf s) refl; laid = spaced-exactly (programTokens (programOf s)) s .1 refl; names = refl; passes = refl }
+
+-- not where it is outside the grammar, a name does not resolve, or the table is refused
+not-accepted : (Accepted (ascii "(1") → ⊥) × (Accepted (ascii "x") → ⊥) × (Accepted (ascii "(nbr 1)") → ⊥)
+unfolding opened
+not-accepted = (
+  λ a. outside-longest (ascii "(1") 1 refl .0 (record { program = a .program; fine = a .fine; laid = a .laid }),
+  λ a. not-both (sym (a .names) ∙ ap namesGood (same (ascii "x") a refl refl)),
+  λ a. let e = sym (a .passes) ∙ ap (λ (p : Program). check (table p) .0) (same (ascii "(nbr 1)") a refl refl) in omega (arith, e),
+)
+  where
+    same : (s : List ℕ) (a : Accepted s) → lex s ≡ programTokens (programOf s) → isFine (programOf s) ≡ true → a .program ≡ programOf s
+    same s a e f =
+        one-program (a .program) (programOf s) (a .fine) (fine-program (programOf s) f) (sym (spaced-exactly (programTokens (a .program)) s .0 (a .laid)) ∙ e)

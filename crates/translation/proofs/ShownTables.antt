@@ -81,6 +81,15 @@ nearest : Gives (ascii "(rep x 0 (rep x x x))") (programBytes (x 0 (0 ∷ []) �
 unfolding opened
 nearest = (gives _ _ (refl, refl) refl refl refl, gives _ _ (refl, refl) refl refl refl, gives _ _ (refl, refl) refl refl refl)
 
+-- two name spaces (4.9), to the byte: a parameter, or a variable, with the name of a definition that is called or folded by
+alike-in-both : Gives (ascii "(def f (f) f) (f 1)") (programBytes (x 1 (0 ∷ []) ∷ def 1 0 ∷ x 0 (1 ∷ []) ∷ x 12 (0 ∷ 1 ∷ []) ∷ []) 2)
+    × Gives (ascii "(def e () 5) (def f () 1) (rep f 0 (+ f (f)))")
+    (programBytes (x 0 (5 ∷ []) ∷ def 0 0 ∷ x 0 (1 ∷ []) ∷ def 0 1 ∷ x 0 (0 ∷ []) ∷ x 2 (0 ∷ []) ∷ x 12 (1 ∷ []) ∷ x 3 (0 ∷ 3 ∷ 4 ∷ []) ∷ x 5 (0 ∷ 2 ∷ 5 ∷ []) ∷ []) 6)
+    × Gives (ascii "(def g (a b) a) (rep g 0 (fold-hood* g g (nbr g)))")
+    (programBytes (x 1 (0 ∷ []) ∷ def 2 0 ∷ x 0 (0 ∷ []) ∷ x 2 (0 ∷ []) ∷ x 2 (0 ∷ []) ∷ x 8 (1 ∷ 3 ∷ []) ∷ x 11 (0 ∷ 2 ∷ 4 ∷ []) ∷ x 5 (0 ∷ 1 ∷ 5 ∷ []) ∷ []) 6)
+unfolding opened
+alike-in-both = (gives _ _ (refl, refl) refl refl refl, gives _ _ (refl, refl) refl refl refl, gives _ _ (refl, refl) refl refl refl)
+
 -- "nodes with operands first, left to right, a definition right after its body"
 order-of-nodes : Gives (ascii "(if (sense 1) (- 2 3) (mux 4 5 6))")
     (programBytes (x 0 (1 ∷ []) ∷ x 4 (0 ∷ []) ∷ x 0 (2 ∷ []) ∷ x 0 (3 ∷ []) ∷ x 3 (1 ∷ 2 ∷ 3 ∷ []) ∷ x 0 (4 ∷ []) ∷ x 0 (5 ∷ []) ∷ x 0 (6 ∷ []) ∷ x 7 (5 ∷ 6 ∷ 7 ∷ [])

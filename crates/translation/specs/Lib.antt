@@ -1,3 +1,4 @@
 pub mod Names
 pub mod Numbering
 pub mod Reads
+pub mod Accepted

@@ -1,11 +1,10 @@
 -- The table of a program: its parts in their order, with the numbers of nodes, slots and variables. Definitions only: nothing is assumed.
 use mathlib.Core.Bool.{Bool, true, false, cond}
 use mathlib.Core.List.{List, [], _∷_, _++_}
-use Prim.Native.Nat.{ℕ, zero, suc, _+_, _-_, min}
+use Prim.Native.Nat.{ℕ, suc, _+_, _-_, min}
 use lib.ListN.{length}
 use Rattle.notation.specs.Words.{Word, lookup, indexOf, isNumber, bitsOf, operators, operator, Head, plain, slotted, operation, rep, fold, define, call, nothing, headOf}
 use Rattle.notation.specs.Grammar.{Tree, leaf, form, Items, nil, expr, bare, Def, Program}
-use Rattle.program.specs.Table.{Node, Definition}
 use Rattle.program.specs.Conditions.{Part, node as aNode, define as aDefinition, programBytes}
 use Rattle.translation.specs.Names.{isRep, binding}
 
@@ -61,11 +60,12 @@ Scope = List (Word × Meaning)
 abbrev pub ofKind : ℕ → List ℕ → Part
 ofKind kind values = aNode (record { kind = kind; values = values })
 
--- "0 constant · 1 parameter p · 2 variable v"
+-- 01: "1 parameter p (0–3) · 2 variable v (0–15)"
 abbrev pub meantBy : Meaning → Part
 meantBy (parameter p) = ofKind 1 (byte p ∷ [])
 meantBy (variable v) = ofKind 2 (byte v ∷ [])
 
+-- a number (01: "0 constant"), or what the nearest binder of a name gives it; a name that is not in scope is refused before
 abbrev pub leafPart : Scope → Word → Part
 leafPart sc w = cond (isNumber w) (ofKind 0 (bitsOf w ∷ [])) (meantBy (lookup w sc (parameter 0)))
 

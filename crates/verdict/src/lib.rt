@@ -1,4 +1,4 @@
-// What every public call returns: the number of a refusal and its place, 0 and 0 when the call did its work.
+// What every public call returns: the number of a refusal and its place. With number 0 the call did its work, and the place is 0, but for what reads a text: there it is the length of the table.
 ghost use mathlib.Core.Path.{_≡_};
 ghost use Rattle.verdict.specs.Pair.{pair};
 
@@ -8,13 +8,20 @@ pub struct Verdict {
     pub place: usize,
 }
 
-pub fn accepted() -> Verdict
-    ensures { λ r. ⌜ pair r ≡ (0, 0) ⌝ }
+// The work is done, and its place says how far it went.
+pub fn done(at: usize) -> Verdict
+    ensures { λ r. ⌜ pair r ≡ (0, at) ⌝ }
 {
     Verdict {
         number: 0,
-        place: 0,
+        place: at,
     }
+}
+
+pub fn accepted() -> Verdict
+    ensures { λ r. ⌜ pair r ≡ (0, 0) ⌝ }
+{
+    done(0)
 }
 
 pub fn refused(number: u32, place: usize) -> Verdict

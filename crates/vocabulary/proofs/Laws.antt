@@ -1,6 +1,6 @@
 -- What a word's code says of it, in notation's terms.
 use mathlib.Core.Path.{_≡_, refl, sym, ap, _∙_}
-use mathlib.Core.Bool.{Bool, true, false, cond, not, _&&_, _||_, and-true}
+use mathlib.Core.Bool.{Bool, true, false, cond, _&&_, _||_, and-true}
 use mathlib.Core.List.{List, [], _∷_, _++_, map}
 use mathlib.Core.Logic.{_↔_}
 use Prim.Native.Nat.{ℕ, suc, _+_, _-_, _≤_, _<_}
@@ -8,13 +8,15 @@ use native.Mathlib.Omega.{arith}
 use lib.Dec.{eqb, leb, ltb, eqb·suc-suc}
 use lib.ListN.{length, getD}
 use borrow.Author.Tests.{eqb-true, eq-eqb, ne-eqb, lt-ltb}
-use Rattle.notation.specs.Words.{Word, between, sameWord, every, oneOf, indexOf, lookup, isLetter, isDigit, nameByte, isName, theDef, theRep, theFold, theInf, reservedWords, reserved}
-use Rattle.notation.specs.Words.{ownName, operators, operator, isCount, isNegative, isNumber, atom, binder, function, Head, operation, call, nothing, headWords, headOf}
-use Rattle.notation.proofs.Words.{not-both, both, same-word}
+use Rattle.notation.specs.Words.{Word, between, sameWord, every, oneOf, indexOf, lookup, isLetter, isDigit, nameByte, isName, theDef, theRep, theFold, theInf, reservedWords, reserved, ownName}
+use Rattle.notation.specs.Words.{operators, operator, isCount, isNegative, isNumber, atom, binder, function, Head, operation, call, nothing, headWords, headOf}
+use Rattle.decide.proofs.Picks.{not-both, both}
+use Rattle.notation.proofs.Words.{same-word}
 use Rattle.notation.proofs.Viable.{listed}
-use Rattle.vocabulary.specs.Codes.{codeOf, knownWords, knownFrom, placeOf, headByCode, nameFront, countFront, atomFront}
-use Rattle.vocabulary.proofs.Between.{between-empty, between-cons, length-between}
-use Rattle.vocabulary.proofs.Classes.{letter-operator, number-letter, number-minus, number-other, count-whole, name-letter, name-whole}
+use Rattle.vocabulary.specs.Codes.{codeOf, knownWords, knownFrom, placeOf, headByCode}
+use Rattle.fronts.specs.Fronts.{nameFront, countFront, atomFront}
+use Rattle.notation.proofs.Between.{between-empty, between-cons, length-between}
+use Rattle.fronts.proofs.Classes.{letter-operator, number-letter, number-minus, number-other, count-whole, name-letter, name-whole}
 
 -- ---- where a word stands in a list
 index-within : (w : Word) (l : List Word) → oneOf w l ≡ true → indexOf w l < length l

@@ -1,7 +1,5 @@
-pub mod Between
 pub mod Turns
 pub mod Table
-pub mod Classes
+pub mod Constants
 pub mod Laws
-pub mod Fronts
 pub mod Shown

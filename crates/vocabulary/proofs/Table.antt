@@ -2,15 +2,17 @@
 use mathlib.Core.Path.{_≡_, refl, sym, _∙_}
 use mathlib.Core.Bool.{Bool, true, false, cond, _&&_}
 use mathlib.Core.List.{List, [], _∷_}
-use Prim.Native.Nat.{ℕ, zero, suc, _+_, _-_, _≤_, _<_}
+use Prim.Native.Nat.{ℕ, suc, _+_, _-_, _≤_, _<_}
 use native.Mathlib.Omega.{arith}
 use native.Mathlib.Numerals.{add-one}
 use lib.Dec.{leb}
 use lib.ListN.{getD}
 use lib.Seq.{drop-cons}
-use borrow.Author.Tests.{leb-true, leb-false}
+use borrow.Author.Tests.{leb-true}
+use Rattle.decide.proofs.Below.{all-below}
 use Rattle.notation.specs.Words.{Word, ascii, between, sameWord, indexOf}
-use Rattle.notation.proofs.Words.{both, same-word}
+use Rattle.decide.proofs.Picks.{both}
+use Rattle.notation.proofs.Words.{same-word}
 use Rattle.vocabulary.specs.Codes.{knownWords, knownFrom}
 
 abbrev pub starts : List ℕ
@@ -25,19 +27,6 @@ entryAt k = between (getD starts k 0) (getD starts (k + 1) 0) spelt
 right : ℕ → Bool
 right k = leb (getD starts k 0) (getD starts (k + 1) 0) && (leb (getD starts (k + 1) 0) 60 && sameWord (entryAt k) (getD knownWords k []))
 
--- a test that is passed by every number below n
-abbrev passed : (ℕ → Bool) → ℕ → Bool
-passed t zero = true
-passed t (suc n) = t n && passed t n
-
-below : (t : ℕ → Bool) (n k : ℕ) → passed t n ≡ true → k < n → t k ≡ true
-below t zero k e h = absurd (omega arith)
-below t (suc n) k e h = go (leb n k) refl (both (t n) (passed t n) e) (below t n k)
-  where
-    go : (c : Bool) → leb n k ≡ c → (t n ≡ true) × (passed t n ≡ true) → (passed t n ≡ true → k < n → t k ≡ true) → t k ≡ true
-    go true q p ih = let l = leb-true n k q in let z : k ≡ n = omega arith in rw z (p .0)
-    go false q p ih = ih (p .1) (leb-false n k q)
-
 pub record Entry (k : ℕ) : Type 0 where
   pub forward : getD starts k 0 ≤ getD starts (k + 1) 0
   pub within : getD starts (k + 1) 0 ≤ 60
@@ -46,7 +35,7 @@ pub record Entry (k : ℕ) : Type 0 where
 pub entry : (k : ℕ) → k < 19 → Entry k
 unfolding right
 entry k h =
-    let p = both (leb (getD starts k 0) (getD starts (k + 1) 0)) (leb (getD starts (k + 1) 0) 60 && sameWord (entryAt k) (getD knownWords k [])) (below right 19 k refl h) in
+    let p = both (leb (getD starts k 0) (getD starts (k + 1) 0)) (leb (getD starts (k + 1) 0) 60 && sameWord (entryAt k) (getD knownWords k [])) (all-below right 19 refl k h) in
     let q = both (leb (getD starts (k + 1) 0) 60) (sameWord (entryAt k) (getD knownWords k [])) (p .1) in
     record { forward = leb-true _ _ (p .0); within = leb-true _ _ (q .0); word = same-word _ _ (q .1) }
 

@@ -1,11 +1,11 @@
-// A word of a text, its bytes a..b, as a number; how far it begins a word that its place allows; whether two words are the same; the bits of a number.
+// A word of a text, its bytes a..b, as a number, and a token; whether two words are the same; the bits of a number.
 ghost use mathlib.Core.Path.{_≡_};
 ghost use mathlib.Core.Bool.{true};
-ghost use mathlib.Core.List.{[], _∷_};
 ghost use Prim.Native.Nat.{_+_, _≤_, _<_};
 ghost use lib.ListN.{length};
-ghost use Rattle.notation.specs.Words.{between, sameWord, indexOf, valueFrom, isLetter, isDigit, nameByte, operator, isCount, isNumber, bitsOf};
-ghost use Rattle.vocabulary.specs.Codes.{codeOf, knownFrom, placeOf, nameFront, countFront, atomFront, equalsNext, functionFront};
+ghost use Rattle.notation.specs.Words.{between, sameWord, indexOf, valueFrom, isCount, isNumber, bitsOf};
+ghost use Rattle.lexemes.specs.Lexeme.{tokenBy};
+ghost use Rattle.vocabulary.specs.Codes.{codeOf, knownFrom, placeOf, tokenCode};
 
 // Where each operator and each reserved word begins in the bytes of them all, and where the last ends.
 const STARTS: [usize; 20] = [
@@ -30,55 +30,6 @@ const STARTS: [usize; 20] = [
     57,
     60,
 ];
-
-fn is_letter(b: u8) -> bool
-    ensures { λ r. ⌜ r ≡ isLetter b ⌝ }
-{
-    if b < 97 {
-        return false;
-    }
-    b <= 122
-}
-
-fn is_digit(b: u8) -> bool
-    ensures { λ r. ⌜ r ≡ isDigit b ⌝ }
-{
-    if b < 48 {
-        return false;
-    }
-    b <= 57
-}
-
-// Whether a byte may follow the first of a name.
-fn name_byte(b: u8) -> bool
-    ensures { λ r. ⌜ r ≡ nameByte b ⌝ }
-{
-    if is_letter(b) {
-        return true;
-    }
-    if is_digit(b) {
-        return true;
-    }
-    if b == 45 {
-        return true;
-    }
-    b == 42
-}
-
-// Whether a byte alone is an operator.
-fn is_sign(b: u8) -> bool
-    ensures { λ r. ⌜ r ≡ operator (b ∷ []) ⌝ }
-{
-    match b {
-        42 => true,
-        43 => true,
-        45 => true,
-        47 => true,
-        60 => true,
-        62 => true,
-        _ => false,
-    }
-}
 
 // The bytes a..b of one text against c..d of another.
 fn equal(s: &[u8], a: usize, b: usize, t: &[u8], c: usize, d: usize) -> bool
@@ -107,108 +58,6 @@ pub fn same(s: &[u8], a: usize, b: usize, c: usize, d: usize) -> bool
     equal(s, a, b, s, c, d)
 }
 
-// How many bytes lead that a name may begin with.
-pub fn name_front(s: &[u8], a: usize, b: usize) -> usize
-    requires { ⌜ (a ≤ b) × (b ≤ length (now s)) ⌝ }
-    ensures { λ r. ⌜ r ≡ nameFront (between a b (now (s .entry))) ⌝ }
-{
-    if a == b {
-        return 0;
-    }
-    if !is_letter(s[a]) {
-        return 0;
-    }
-    let mut i = a + 1;
-    while i < b {
-        if i - a == 16 {
-            return 16;
-        }
-        if !name_byte(s[i]) {
-            return i - a;
-        }
-        i += 1;
-    }
-    b - a
-}
-
-// How many digits lead before their value passes inf.
-fn count_front(s: &[u8], a: usize, b: usize) -> usize
-    requires { ⌜ (a ≤ b) × (b ≤ length (now s)) ⌝ }
-    ensures { λ r. ⌜ r ≡ countFront 0 (between a b (now (s .entry))) ⌝ }
-{
-    let mut n: u64 = 0;
-    let mut i = a;
-    while i < b {
-        let d = s[i];
-        if !is_digit(d) {
-            return i - a;
-        }
-        n = n * 10 + ((d - 48) as u64);
-        if 2147483647 < n {
-            return i - a;
-        }
-        i += 1;
-    }
-    b - a
-}
-
-// Of what stands alone.
-pub fn atom_front(s: &[u8], a: usize, b: usize) -> usize
-    requires { ⌜ (a ≤ b) × (b ≤ length (now s)) ⌝ }
-    ensures { λ r. ⌜ r ≡ atomFront (between a b (now (s .entry))) ⌝ }
-{
-    if a == b {
-        return 0;
-    }
-    if is_letter(s[a]) {
-        return name_front(s, a, b);
-    }
-    if s[a] == 45 {
-        return 1 + count_front(s, a + 1, b);
-    }
-    count_front(s, a, b)
-}
-
-// Of an operator's first byte alone, or with the = behind it: a..b is what follows it.
-fn equals_next(s: &[u8], a: usize, b: usize) -> usize
-    requires { ⌜ (a ≤ b) × (b ≤ length (now s)) ⌝ }
-    ensures { λ r. ⌜ r ≡ equalsNext (between a b (now (s .entry))) ⌝ }
-{
-    if a == b {
-        return 1;
-    }
-    if s[a] == 61 {
-        return 2;
-    }
-    1
-}
-
-// Of functions and heads.
-pub fn function_front(s: &[u8], a: usize, b: usize) -> usize
-    requires { ⌜ (a ≤ b) × (b ≤ length (now s)) ⌝ }
-    ensures { λ r. ⌜ r ≡ functionFront (between a b (now (s .entry))) ⌝ }
-{
-    if a == b {
-        return 0;
-    }
-    if is_letter(s[a]) {
-        return name_front(s, a, b);
-    }
-    if s[a] == 62 {
-        return equals_next(s, a + 1, b);
-    }
-    if s[a] == 61 {
-        return equals_next(s, a + 1, b);
-    }
-    if s[a] == 33 {
-        return equals_next(s, a + 1, b);
-    }
-    if is_sign(s[a]) {
-        return 1;
-    }
-    0
-}
-
 // Which of the words from..to it is, `to` for none.
 fn seek(s: &[u8], a: usize, b: usize, from: usize, to: usize) -> u8
     requires { ⌜ (a ≤ b) × (b ≤ length (now s)) × (from ≤ to) × (to ≤ 19) ⌝ }
@@ -231,7 +80,7 @@ fn place(s: &[u8], a: usize, b: usize) -> u8
     requires { ⌜ (a < b) × (b ≤ length (now s)) ⌝ }
     ensures { λ r. ⌜ r ≡ placeOf (between a b (now (s .entry))) ⌝ }
 {
-    if is_letter(s[a]) {
+    if fronts::is_letter(s[a]) {
         return seek(s, a, b, 9, 19);
     }
     let k = seek(s, a, b, 0, 9);
@@ -253,10 +102,10 @@ pub fn code(s: &[u8], a: usize, b: usize) -> u8
     if k < 19 {
         return k;
     }
-    if atom_front(s, a, b) != b - a {
+    if fronts::atom_front(s, a, b) != b - a {
         return 21;
     }
-    if is_letter(s[a]) {
+    if fronts::is_letter(s[a]) {
         return 19;
     }
     20
@@ -288,8 +137,22 @@ pub fn bits(s: &[u8], a: usize, b: usize) -> u32
         }
         return 4294967295 - n + 1;
     }
-    if is_letter(s[a]) {
+    if fronts::is_letter(s[a]) {
         return 2147483647;
     }
     value(s, a, b)
+}
+
+// The code of a token of that kind, with the bytes a..b.
+pub fn token_code(s: &[u8], kind: u8, a: usize, b: usize) -> u8
+    requires { ⌜ (a ≤ b) × (b ≤ length (now s)) ⌝ }
+    ensures { λ r. ⌜ r ≡ tokenCode (tokenBy kind (between a b (now (s .entry)))) ⌝ }
+{
+    if kind == 1 {
+        return 22;
+    }
+    if kind == 2 {
+        return 23;
+    }
+    code(s, a, b)
 }

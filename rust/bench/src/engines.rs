@@ -3,7 +3,7 @@
 use cases::random::Random;
 use cases::table::{bytes, write, Draft, Tree};
 use cases::{events, network};
-use differ::{Engine, Second};
+use differ::{Engine, Reader, Second};
 use std::fmt;
 
 /// The cells of a network and the numbers of an answer.
@@ -22,12 +22,23 @@ impl fmt::Display for Sizes {
 /// Today's.
 pub const NOW: Sizes = Sizes { cells: network::CELLS, answer: 2 };
 
+/// Which engine it is.
+#[derive(Clone, Copy, PartialEq)]
+pub enum Which {
+    /// The older library, which may not know every kind of node, nor read texts.
+    Older,
+    #[cfg(feature = "proved")]
+    Proved,
+    Second,
+}
+
 /// An engine that is timed.
 pub struct Timed {
+    pub which: Which,
     pub engine: &'static dyn Engine,
+    /// The same as a reader of texts, if it is one.
+    pub reader: Option<&'static dyn Reader>,
     pub sizes: Sizes,
-    /// Whether it is the older library, which may not know every kind of node.
-    pub older: bool,
 }
 
 /// The older library of the proved engine.
@@ -53,27 +64,37 @@ impl Engine for Before {
     }
 }
 
+#[cfg(feature = "before")]
+impl Reader for Before {
+    fn read_text(&self, text: &[u8], table: &mut [u8]) -> differ::Returned {
+        before::READ_TEXT.expect("only a library that has it is asked")(text, table)
+    }
+}
+
 /// All engines of this build: the older library, which has these sizes, the proved engine, the second one.
 pub fn all(before: Sizes) -> Vec<Timed> {
-    let older: Option<&dyn Engine> = {
+    let older: Option<Timed> = {
         #[cfg(feature = "before")]
         {
-            Some(&Before)
+            let reader = before::READ_TEXT.map(|_| &Before as &dyn Reader);
+            Some(Timed { which: Which::Older, engine: &Before, reader, sizes: before })
         }
         #[cfg(not(feature = "before"))]
-        None
+        {
+            let _ = before;
+            None
+        }
     };
-    let proved: Option<&dyn Engine> = {
+    let proved: Option<Timed> = {
         #[cfg(feature = "proved")]
         {
-            Some(&differ::Proved)
+            Some(Timed { which: Which::Proved, engine: &differ::Proved, reader: Some(&differ::Proved), sizes: NOW })
         }
         #[cfg(not(feature = "proved"))]
         None
     };
-    let older = older.map(|engine| Timed { engine, sizes: before, older: true });
-    let now = proved.into_iter().chain([&Second as &dyn Engine]);
-    older.into_iter().chain(now.map(|engine| Timed { engine, sizes: NOW, older: false })).collect()
+    let second = Timed { which: Which::Second, engine: &Second, reader: Some(&Second), sizes: NOW };
+    older.into_iter().chain(proved).chain([second]).collect()
 }
 
 /// A program's table.
@@ -84,7 +105,7 @@ pub fn table(draft: &Draft) -> Vec<u8> {
 impl Timed {
     /// Whether the engine can be given this program: an older one refuses kinds that came later (3).
     pub fn knows(&self, program: &[u8]) -> bool {
-        !self.older || self.engine.check(program).0 != 3
+        self.which != Which::Older || self.engine.check(program).0 != 3
     }
 
     /// Whether the engine takes networks of its size, and fills exactly its size of an answer.

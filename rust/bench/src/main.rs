@@ -9,25 +9,27 @@ mod work;
 mod works;
 
 use cases::network;
-use engines::{Sizes, Timed, NOW};
+use engines::{Sizes, Timed, Which, NOW};
 use std::hint::black_box;
 use std::process::ExitCode;
 use std::time::Instant;
 use work::Work;
 
 const USAGE: &str =
-    "bench [rounds] [--before-cells N] [--before-answer W]; the last two where it was built with `before`";
+    "bench [rounds] [--long] [--before-cells N] [--before-answer W]; the last two where it was built with `before`";
 
-/// What is asked for: how many rounds, and the older library's sizes.
+/// What is asked for: how many rounds, whether works that take minutes, and the older library's sizes.
 struct Options {
     rounds: usize,
+    long: bool,
     before: Sizes,
 }
 
 fn options(mut words: impl Iterator<Item = String>) -> Option<Options> {
-    let mut options = Options { rounds: 15, before: NOW };
+    let mut options = Options { rounds: 15, long: false, before: NOW };
     while let Some(word) = words.next() {
         match &word[..] {
+            "--long" => options.long = true,
             "--before-cells" if cfg!(feature = "before") => options.before.cells = words.next()?.parse().ok()?,
             "--before-answer" if cfg!(feature = "before") => options.before.answer = words.next()?.parse().ok()?,
             rounds => options.rounds = rounds.parse::<usize>().ok()?.max(1),
@@ -136,7 +138,7 @@ fn load() -> String {
 }
 
 fn main() -> ExitCode {
-    let Some(Options { rounds, before }) = options(std::env::args().skip(1)) else {
+    let Some(Options { rounds, long, before }) = options(std::env::args().skip(1)) else {
         eprintln!("{USAGE}");
         return ExitCode::from(2);
     };
@@ -153,10 +155,14 @@ fn main() -> ExitCode {
     if before != NOW {
         println!("Before: {before}. What that engine left is not compared.");
     }
-    if engines.iter().any(|timed| timed.older) {
-        println!("`-` stands at a program with a kind of node that the older library does not know.");
+    if engines.iter().any(|timed| timed.which == Which::Older) {
+        println!("`-` stands at what the older library does not know: a kind of node, or the reading of texts.");
     }
-    print_table("work", &works::all(), false, engines, rounds);
+    println!("`-` stands for the second engine where it would need too much memory (a text without its ends).");
+    if long {
+        println!("The line of 1 MB of names is of one round.");
+    }
+    print_table("work", &works::all(long), false, engines, rounds);
     let growth = "distance-to, a run of so many events: time an event";
     print_table(growth, &works::growth(), true, engines, rounds);
     println!();

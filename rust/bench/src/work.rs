@@ -1,6 +1,6 @@
 //! Pieces of work, and the time that engines take for them.
 
-use crate::engines::{Sizes, Timed};
+use crate::engines::{Sizes, Timed, Which};
 use std::fs::File;
 use std::hint::black_box;
 use std::os::unix::fs::FileExt;
@@ -11,6 +11,7 @@ use std::time::Instant;
 /// One piece of work. `times` times each list is given to one call; the time is that of one call.
 pub struct Work {
     pub name: String,
+    /// The program's table, or the text that is read.
     pub program: Vec<u8>,
     pub lists: Vec<Vec<u8>>,
     pub call: Call,
@@ -21,6 +22,19 @@ pub struct Work {
     pub events: usize,
     /// What is run on a fresh network before the first call, without being timed.
     pub start: Option<Start>,
+    /// How much is asked of the engines and of who waits.
+    pub effort: Effort,
+}
+
+/// How often a work is done, and by whom.
+#[derive(Clone, Copy, PartialEq)]
+pub enum Effort {
+    /// In every round, by every engine.
+    Usual,
+    /// In every round, but not by the second engine, which would need too much memory.
+    NotSecond,
+    /// In one round, and only where it is asked for: it takes minutes.
+    Long,
 }
 
 /// A program and events that bring a fresh network into use. Every engine does them itself, so that each has a network of
@@ -36,7 +50,11 @@ pub enum Call {
     Fresh,
     Event,
     Run,
+    ReadText,
 }
+
+/// The bytes for a table.
+const ROOM: usize = 4_096;
 
 /// What a work's calls returned and left.
 #[derive(PartialEq)]
@@ -44,6 +62,7 @@ struct Left {
     returned: Vec<(u32, usize)>,
     network: Vec<i32>,
     space: Vec<i32>,
+    table: Vec<u8>,
 }
 
 /// For how many nanoseconds this program has waited for a core that others had; 0 where the system does not say.
@@ -69,12 +88,24 @@ fn clock() -> i64 {
 }
 
 impl Work {
-    fn call(&self, timed: &Timed, network: &mut [i32], list: &[u8], space: &mut [i32]) -> (u32, usize) {
+    fn call(&self, timed: &Timed, list: &[u8], left: &mut Left) -> (u32, usize) {
+        let Left { network, space, table, .. } = left;
         match self.call {
             Call::Check => timed.engine.check(&self.program),
             Call::Fresh => timed.engine.fresh(network),
             Call::Event => timed.engine.event(&self.program, network, list, space),
             Call::Run => timed.engine.run(&self.program, network, list, space),
+            Call::ReadText => timed.reader.expect("it is asked for no other").read_text(&self.program, table),
+        }
+    }
+
+    /// Whether an engine can be given the work.
+    fn is_for(&self, timed: &Timed) -> bool {
+        match self.call {
+            Call::ReadText => {
+                timed.reader.is_some() && (timed.which != Which::Second || self.effort != Effort::NotSecond)
+            }
+            _ => timed.knows(&self.program),
         }
     }
 
@@ -94,27 +125,29 @@ impl Work {
 
     /// The time of a call in nanoseconds, and what was left.
     fn time(&self, timed: &Timed) -> (f64, Left) {
-        let mut network = self.network(timed);
         // Not of zeros, which would be given memory only when the calls write.
-        let mut space = vec![1; timed.sizes.answer * self.events];
+        let space = vec![1; timed.sizes.answer * self.events];
+        let mut left = Left { returned: vec![], network: self.network(timed), space, table: vec![1; ROOM] };
         let mut returned = vec![(0, 0); self.lists.len()];
         let start = clock();
         for _ in 0..self.times {
             for (list, returned) in self.lists.iter().zip(&mut returned) {
-                *returned = black_box(self.call(timed, &mut network, black_box(list), &mut space));
+                *returned = black_box(self.call(timed, black_box(list), &mut left));
             }
         }
         let nanos = clock() - start;
+        left.returned = returned;
         let calls = self.times * self.lists.len();
-        (nanos as f64 / calls as f64, Left { returned, network, space })
+        (nanos as f64 / calls as f64, left)
     }
 
-    /// What each engine took in each round, in nanoseconds; nothing for an older one that does not know the program.
-    /// Engines of the same sizes must do the same.
+    /// What each engine took in each round, in nanoseconds; nothing for one that is not given the work. Engines of the same
+    /// sizes must do the same.
     pub fn measure(&self, engines: &[Timed], rounds: usize) -> Vec<Vec<f64>> {
         let mut times = vec![vec![]; engines.len()];
         // Asked once, as a check in a round would warm the older engine only.
-        let known: Vec<bool> = engines.iter().map(|timed| timed.knows(&self.program)).collect();
+        let known: Vec<bool> = engines.iter().map(|timed| self.is_for(timed)).collect();
+        let rounds = if self.effort == Effort::Long { 1 } else { rounds };
         for round in 0..rounds {
             let mut lefts: Vec<(Sizes, Left)> = vec![];
             for which in order(round, engines.len()).filter(|which| known[*which]) {

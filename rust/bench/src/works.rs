@@ -1,10 +1,11 @@
 //! The works that are timed.
 
 use crate::engines::table;
-use crate::work::{Call, Start, Work};
+use crate::work::{Call, Effort, Start, Work};
 use cases::events;
 use cases::grow::{self, Shape};
 use cases::random::Random;
+use cases::spell::spell;
 use cases::table::{Draft, Tree};
 use differ::{Engine, Second};
 
@@ -139,7 +140,7 @@ fn run(name: &str, program: &[u8], list: Vec<Vec<u8>>, times: usize) -> Work {
 /// Calls of event, one for each list.
 fn event(name: &str, program: &[u8], lists: Vec<Vec<u8>>, times: usize) -> Work {
     let (name, program, call) = (name.into(), program.to_vec(), Call::Event);
-    Work { name, program, lists, call, times, number: 0, events: 1, start: None }
+    Work { name, program, lists, call, times, number: 0, events: 1, start: None, effort: Effort::Usual }
 }
 
 /// Calls of check.
@@ -256,26 +257,85 @@ fn silent() -> Work {
     Work { start: Some(Start { program: program.clone(), list: linked(square) }), ..event(name, &program, lists, 16) }
 }
 
-/// What is done without events.
-fn checks() -> Vec<Work> {
-    // Of kinds that older libraries know too.
+/// A program of 256 nodes, of kinds that older libraries know too.
+fn full() -> Draft {
     let shape = Shape { nodes: 256, definitions: 8, cost: 4_000, spare: 0, deep: 20, measures: &[9] };
     let mut full = grow::accepted(shape, &mut Random::new(8, 8));
     grow::pad(&mut full, 256);
     assert_eq!(full.size(), 256);
+    full
+}
+
+/// What is done without events.
+fn checks() -> Vec<Work> {
     let tower = Draft { definitions: grow::tower(32), main: Tree::new(12, &[31], vec![]), orphans: vec![] };
     vec![
-        check("check of 256 nodes", &full, 0),
+        check("check of 256 nodes", &full(), 0),
         check("check of a tower of 32 definitions, refused with 10", &tower, 10),
         Work { call: Call::Fresh, ..check("fresh", &tower, 0) },
     ]
 }
 
-/// The works of the first table.
-pub fn all() -> Vec<Work> {
+/// Calls of read_text.
+fn read_text(name: &str, text: Vec<u8>, number: u32, times: usize) -> Work {
+    Work { number, events: 0, call: Call::ReadText, ..event(name, &text, vec![vec![]], times) }
+}
+
+const KB: usize = 1_024;
+const MB: usize = KB * KB;
+
+/// So many times a piece that the whole text, with its front and end, has about `size` bytes and no more.
+fn filled(size: usize, front: &str, piece: &str, end: &str) -> Vec<u8> {
+    [front, &piece.repeat((size - front.len() - end.len()) / piece.len()), end].concat().into_bytes()
+}
+
+/// A parameter, read so often that the text has this size. Each is sought outwards, past all that stand before it in the
+/// definition.
+fn names(size: usize) -> Vec<u8> {
+    filled(size, "(def h () 1)(def g (x) (h", " x", "))1")
+}
+
+/// Calls in calls, so deep that the text has this size.
+fn nested(size: usize) -> Vec<u8> {
+    let front = "(def f (a) a)";
+    let depth = (size - front.len()) / 3;
+    [front, &"(f".repeat(depth), " 1", &")".repeat(depth)].concat().into_bytes()
+}
+
+/// Texts: a program that is accepted, then long ones, whose 257th node is refused when all else has been tested.
+fn texts() -> Vec<Work> {
+    let words = spell(&full(), &mut Random::new(8, 8)).words;
+    // One blank between words; or as many line ends as make up the size.
+    let plain: Vec<u8> = words.iter().flat_map(|word| [word.text.as_bytes(), b" "].concat()).collect();
+    let spread = |size: usize| {
+        let blanks = "\n".repeat((size - plain.len()) / words.len() + 1);
+        words.iter().flat_map(|word| [word.text.as_bytes(), blanks.as_bytes()].concat()).collect::<Vec<u8>>()
+    };
+    let call = "(def f (a) a)(f";
+    vec![
+        read_text("read_text of 256 nodes", plain.clone(), 0, 100),
+        read_text("the same with blanks, 16 KB", spread(16 * KB), 0, 10),
+        read_text("read_text of 16 KB: a call of numbers, refused with 2", filled(16 * KB, call, " 1", ")"), 2, 10),
+        read_text("read_text of 16 KB: a parameter read again and again, refused with 2", names(16 * KB), 2, 1),
+        read_text("read_text of 1 MB: a call of numbers, refused with 2", filled(MB, call, " 1", ")"), 2, 1),
+        read_text("read_text of 1 MB: calls in calls, (f(f(f.., refused with 2", nested(MB), 2, 1),
+        Work {
+            effort: Effort::NotSecond,
+            ..read_text("the same without their ends, refused with 19", filled(MB, "", "(f", ""), 19, 1)
+        },
+        Work {
+            effort: Effort::Long,
+            ..read_text("read_text of 1 MB: a parameter read again and again, refused with 2", names(MB), 2, 1)
+        },
+    ]
+}
+
+/// The works of the first table; those that take minutes too, where `long`.
+pub fn all(long: bool) -> Vec<Work> {
     let refused = mostly_refused(20_000);
     let refused = run("run of 20,000 events, nine in ten refused (14, 15, 16)", &distance_to(), refused, 1);
-    [fleets(), dear_fires(), single_events(), checks(), vec![refused]].into_iter().flatten().collect()
+    let works = [fleets(), dear_fires(), single_events(), checks(), vec![refused], texts()];
+    works.into_iter().flatten().filter(|work| long || work.effort != Effort::Long).collect()
 }
 
 /// Runs of ever more events.

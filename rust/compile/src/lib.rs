@@ -12,6 +12,17 @@ pub trait Reader {
     fn read_text(&self, text: &[u8], table: &mut [u8]) -> (u32, usize);
 }
 
+/// The proved engine.
+#[cfg(feature = "proved")]
+pub struct Proved;
+
+#[cfg(feature = "proved")]
+impl Reader for Proved {
+    fn read_text(&self, text: &[u8], table: &mut [u8]) -> (u32, usize) {
+        cuddystove::plain::read_text(text, table)
+    }
+}
+
 /// The second engine.
 pub struct Second;
 
@@ -86,7 +97,7 @@ fn refusal(reader: &dyn Reader, file: &str, text: &[u8], (number, place): (u32, 
         }
         7..=9 => (table_name(number), node(place), format!("{} It is node {place} of the table.", of_a_node(number))),
         10 => (table_name(10), scan.main().unwrap_or(whole), COST.into()),
-        13 => ("no room", whole, format!("the table has more than {ROOM} bytes.")),
+        13 => ("short space", whole, format!("the table has more than {ROOM} bytes.")),
         _ => ("refused", whole, "the table is refused.".into()),
     };
     let (line, column) = Lines::of(text).position(at.start);
@@ -165,22 +176,47 @@ fn outside(text: &[u8], place: usize, scan: &Scan, fine: usize) -> String {
         return format!("the text ends here: {wanted}.{open}");
     };
     let (word, shown) = (scan.word(token), scan.shown(token));
-    match word.iter().find(|byte| !of_the_notation(**byte)) {
-        Some(b'\t') => return "a tab parts no words; only spaces and line ends do.".into(),
-        Some(b';' | b'#') => return "the notation has no comments.".into(),
-        Some(byte) if byte.is_ascii_uppercase() => return format!("{shown} has a capital, and the notation has none."),
-        Some(byte) => return format!("byte {byte} is part of no word of the notation."),
-        None => {}
+    if let Some(byte) = word.iter().find(|byte| !of_the_notation(**byte)) {
+        return strange(*byte, &shown);
     }
+    let (within, whole) = (place > token.start, place == token.end);
     match word {
         b"-inf" => "`inf` takes no minus; the least number is -2147483647.".into(),
-        _ if is_decimal(word) && place > token.start => {
-            format!("{shown} is outside floor..inf, -2147483647 to 2147483647.")
+        b"=" => "there is no `=`; equality is `==`.".into(),
+        b"!" => "there is no `!`; unequal is `!=`.".into(),
+        b"<=" => "there is no `<=`; write `(>= b a)` for `(<= a b)`.".into(),
+        b"def" if whole && scan.at_head() => {
+            "a definition cannot stand within an expression; definitions come first.".into()
         }
-        _ if place == token.start + 16 && place < token.end => format!("{shown} has more than 16 characters."),
-        _ if place == token.end => format!("{shown} is a word of the notation and cannot stand here: {wanted}."),
+        b"inf" if whole && scan.at_head() => "`inf` is a number and heads nothing.".into(),
+        _ if within && is_decimal(word) => match is_past_inf(word) {
+            true => format!("{shown} is outside floor..inf, -2147483647 to 2147483647."),
+            false => format!("{shown} is a number and cannot stand here: {wanted}."),
+        },
+        [b'a'..=b'z', ..] if place == token.start + 16 && !whole => format!("{shown} has more than 16 characters."),
+        _ if whole => format!("{shown} is a word of the notation and cannot stand here: {wanted}."),
+        _ if within => {
+            format!("{shown} is no word of the notation; is a blank missing? {}.", capitalised(&wanted))
+        }
         _ => format!("{shown} cannot follow: {wanted}."),
     }
+}
+
+/// Why a byte that no word of the notation has cannot stand in the word that is shown.
+fn strange(byte: u8, shown: &str) -> String {
+    match byte {
+        b'\t' => "a tab parts no words; only spaces and line ends do.".into(),
+        b';' | b'#' => "the notation has no comments.".into(),
+        b'A'..=b'Z' => format!("{shown} has a capital, and the notation has none."),
+        _ if byte.is_ascii_graphic() => format!("`{}` is part of no word of the notation.", char::from(byte)),
+        _ => format!("byte {byte} is part of no word of the notation."),
+    }
+}
+
+/// The same as a sentence begins.
+fn capitalised(words: &str) -> String {
+    let (first, rest) = words.split_at(1);
+    first.to_ascii_uppercase() + rest
 }
 
 fn of_the_notation(byte: u8) -> bool {
@@ -190,6 +226,13 @@ fn of_the_notation(byte: u8) -> bool {
 fn is_decimal(word: &[u8]) -> bool {
     let digits = word.strip_prefix(b"-").unwrap_or(word);
     !digits.is_empty() && digits.iter().all(u8::is_ascii_digit)
+}
+
+/// Whether the digits of a number stand for more than inf.
+fn is_past_inf(word: &[u8]) -> bool {
+    let zeros = word.iter().take_while(|byte| b"-0".contains(byte)).count();
+    let digits = &word[zeros..];
+    (digits.len(), digits) > (10, b"2147483647")
 }
 
 /// The most bytes that are shown of a line before the caret, and behind it.
@@ -259,9 +302,86 @@ mod tests {
             ("(def f (a b c d e) 1) 2", "1:17", "19 16", "`e` cannot follow: a definition has at most 4 parameters."),
             ("(def f a 1) 2", "1:8", "19 7", "`a` cannot follow: the parameters stand in brackets, also where there is one or none."),
             ("(nbr-range 1)", "1:12", "19 11", "`1` cannot follow: `nbr-range` takes no operand, and a bracket closes it."),
-            ("()", "1:2", "19 1", "`)` cannot follow: an opening bracket is followed by an operator, a word of the notation or a definition's name."),
+            ("()", "1:2", "19 1", "`)` cannot follow: an opening bracket is followed by an operator, the word of a form (`sense`, `rep`, `if` ..), a definition's name or `def`."),
             ("(+ X 1)", "1:4", "19 3", "`X` has a capital, and the notation has none."),
             ("(rep x 0)", "1:9", "19 8", "`)` cannot follow: `rep` takes a name, an initial part and an update, and has 2 parts so far."),
+        ] {
+            begins(text, at, refused, sentence);
+        }
+    }
+
+    /// What follows an opening bracket, `def` besides where none is open around it.
+    const HEAD: &str = "n opening bracket is followed by an operator, the word of a form (`sense`, `rep`, `if` ..)";
+
+    #[test]
+    fn numbers_outside_the_notation() {
+        let head = format!("a{HEAD}, a definition's name or `def`.");
+        for (text, at, refused, sentence) in [
+            ("(-1 2)", "1:3", "19 2", &format!("`-1` is a number and cannot stand here: {head}")[..]),
+            ("(1 2)", "1:2", "19 1", &format!("`1` cannot follow: {head}")),
+            (
+                "(fold-hood* -1 0 (nbr 1))",
+                "1:14",
+                "19 13",
+                "`-1` is a number and cannot stand here: `fold-hood*` is followed by an operator or the name of a definition.",
+            ),
+            ("(inf)", "1:5", "19 4", "`inf` is a number and heads nothing."),
+            ("-inf", "1:2", "19 1", "`inf` takes no minus; the least number is -2147483647."),
+            ("-2147483648", "1:11", "19 10", "`-2147483648` is outside floor..inf, -2147483647 to 2147483647."),
+            ("0002147483648", "1:13", "19 12", "`0002147483648` is outside floor..inf, -2147483647 to 2147483647."),
+            ("99999999999", "1:10", "19 9", "`99999999999` is outside floor..inf, -2147483647 to 2147483647."),
+            ("(+ 1 2 2147483648)", "1:8", "19 7", "`2147483648` cannot follow: `+` takes 2 operands, and a bracket closes it."),
+            (
+                "0000000000000000x",
+                "1:17",
+                "19 16",
+                "`0000000000000000x` is no word of the notation; is a blank missing? Here stands a definition or the main expression.",
+            ),
+        ] {
+            begins(text, at, refused, sentence);
+        }
+        for (digits, past) in
+            [("2147483647", false), ("-2147483647", false), ("-002147483648", true), ("0000000000000", false)]
+        {
+            assert_eq!(is_past_inf(digits.as_bytes()), past, "{digits}");
+        }
+    }
+
+    #[test]
+    fn words_outside_the_notation() {
+        let (inner, outer) =
+            (format!("A{HEAD} or a definition's name."), format!("A{HEAD}, a definition's name or `def`."));
+        let definition = "a definition cannot stand within an expression; definitions come first.";
+        for (text, at, refused, sentence) in [
+            ("(= 1 2)", "1:3", "19 2", "there is no `=`; equality is `==`."),
+            ("(fold-hood* ! 0 (nbr 1))", "1:14", "19 13", "there is no `!`; unequal is `!=`."),
+            ("(! 1 2)", "1:3", "19 2", "there is no `!`; unequal is `!=`."),
+            ("(<= 1 2)", "1:3", "19 2", "there is no `<=`; write `(>= b a)` for `(<= a b)`."),
+            ("(+ (def f () 1) 2)", "1:8", "19 7", definition),
+            ("(def f () (def g () 1)) 2", "1:15", "19 14", definition),
+            (
+                "(+ def 1)",
+                "1:7",
+                "19 6",
+                "`def` is a word of the notation and cannot stand here: `+` takes 2 operands, and has 0 so far.",
+            ),
+            ("(+1 2)", "1:3", "19 2", &format!("`+1` is no word of the notation; is a blank missing? {outer}")[..]),
+            ("(+ 1 (-x 2))", "1:8", "19 7", &format!("`-x` is no word of the notation; is a blank missing? {inner}")),
+            (
+                "1x",
+                "1:2",
+                "19 1",
+                "`1x` is no word of the notation; is a blank missing? Here stands a definition or the main expression.",
+            ),
+            (
+                "(+ a+b 1)",
+                "1:5",
+                "19 4",
+                "`a+b` is no word of the notation; is a blank missing? `+` takes 2 operands, and has 0 so far.",
+            ),
+            ("1.5", "1:2", "19 1", "`.` is part of no word of the notation."),
+            ("(+ a\u{7f} 1)", "1:5", "19 4", "byte 127 is part of no word of the notation."),
+            ("(+ \u{e9} 1)", "1:4", "19 3", "byte 195 is part of no word of the notation."),
         ] {
             begins(text, at, refused, sentence);
         }
@@ -340,6 +460,24 @@ mod tests {
         assert!(nodes(&Second, b"(nbr 1)").is_some());
     }
 
+    /// The kinds of a table's nodes, in the words of the list.
+    fn kinds(table: &[u8]) -> Vec<&'static str> {
+        let names: Vec<&str> =
+            "constant parameter variable operator sense rep if mux nbr nbr-range fold fold call nbr-lag"
+                .split(' ')
+                .collect();
+        let mut kinds = vec![];
+        let mut rest = table;
+        while let [tag, high, low, after @ ..] = rest {
+            let (body, more) = after.split_at(usize::from(u16::from_be_bytes([*high, *low])));
+            if *tag == 1 {
+                kinds.push(names[usize::from(body[0])]);
+            }
+            rest = more;
+        }
+        kinds
+    }
+
     /// The scan finds as many nodes as the table has, each of the kind that the table says, in texts that nest deep
     /// too.
     #[test]
@@ -351,35 +489,9 @@ mod tests {
         ];
         for text in texts {
             let table = compile(&Second, "t", text.as_bytes()).expect(text);
-            let mut kinds = vec![];
-            let mut rest = &table[..];
-            while let [tag, high, low, after @ ..] = rest {
-                let (body, more) = after.split_at(usize::from(u16::from_be_bytes([*high, *low])));
-                if *tag == 1 {
-                    kinds.push(body[0]);
-                }
-                rest = more;
-            }
-            const NAMES: [&str; 14] = [
-                "constant",
-                "parameter",
-                "variable",
-                "operator",
-                "sense",
-                "rep",
-                "if",
-                "mux",
-                "nbr",
-                "nbr-range",
-                "fold",
-                "fold",
-                "call",
-                "nbr-lag",
-            ];
-            let expected: Vec<&str> = kinds.iter().map(|kind| NAMES[usize::from(*kind)]).collect();
-            let found: Vec<&str> =
-                Scan::up_to(text.as_bytes(), text.len()).nodes.iter().map(|node| node.kind).collect();
-            assert_eq!(found, expected, "{text}");
+            let scan = Scan::up_to(text.as_bytes(), text.len());
+            let found: Vec<&str> = scan.nodes.iter().map(|node| node.kind).collect();
+            assert_eq!(found, kinds(&table), "{text}");
         }
         let deep = 100_000;
         assert!(said(&format!("{}1{}", "(sense ".repeat(deep), ")".repeat(deep))).contains("refused 2 256"));

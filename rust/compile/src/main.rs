@@ -3,11 +3,16 @@
 #![forbid(unsafe_code)]
 
 use compile::{compile, nodes, Reader};
+use std::fs::Metadata;
 use std::io::Write;
+use std::os::unix::fs::MetadataExt;
 use std::path::{Path, PathBuf};
 use std::process::ExitCode;
 
-/// The reader: the second engine's, until the proved one is there.
+/// Who decides: the proved engine. In a build without its library, which `./compile` never makes, the second one.
+#[cfg(feature = "proved")]
+const READER: &dyn Reader = &compile::Proved;
+#[cfg(not(feature = "proved"))]
 const READER: &dyn Reader = &compile::Second;
 
 const USAGE: &str = "usage: compile TEXT [TABLE], compile --nodes TEXT   (compile --help says more)";
@@ -17,25 +22,44 @@ struct Failed(String);
 
 /// Where the table goes if that is not said.
 fn beside(text: &Path) -> Result<PathBuf, Failed> {
-    match text.extension() {
-        Some(extension) if extension == "proto" => Ok(text.with_extension("pf")),
-        _ => Err(Failed(format!("compile: {} does not end in .proto: name the table too", text.display()))),
-    }
+    let why = match text.extension() {
+        Some(extension) if extension == "proto" => return Ok(text.with_extension("pf")),
+        _ if text.file_name().is_some_and(|name| name == ".proto") => "has no name before .proto",
+        _ => "does not end in .proto",
+    };
+    Err(Failed(format!("compile: {} {why}: name the table too", text.display())))
 }
 
 fn read(path: &Path) -> Result<Vec<u8>, Failed> {
     std::fs::read(path).map_err(|error| Failed(format!("compile: {}: {error}", path.display())))
 }
 
-/// Writes a file whole or not at all.
+/// Whether both paths lead to one file. A device that is read and written is not meant.
+fn same_file(one: &Path, two: &Path) -> bool {
+    let file = |path| std::fs::metadata(path).ok().filter(Metadata::is_file).map(|data| (data.dev(), data.ino()));
+    file(one).is_some_and(|one| file(two) == Some(one))
+}
+
+/// Writes a table. Links lead to what is written; a file is written whole or not at all, a device or pipe directly.
 fn write(path: &Path, bytes: &[u8]) -> Result<(), Failed> {
-    let failed = |error: std::io::Error| Failed(format!("compile: {}: {error}", path.display()));
-    let name = path.file_name().ok_or_else(|| Failed(format!("compile: {} is no file", path.display())))?;
-    let new = path.with_file_name(format!(".{}.{}", name.to_string_lossy(), std::process::id()));
-    std::fs::write(&new, bytes).and_then(|()| std::fs::rename(&new, path)).map_err(|error| {
+    let file = std::fs::canonicalize(path).unwrap_or_else(|_| path.into());
+    // What is still a link leads to what is not there yet.
+    let done = match std::fs::symlink_metadata(&file) {
+        Ok(data) if !data.is_file() => std::fs::write(&file, bytes),
+        _ => replace(&file, bytes),
+    };
+    done.map_err(|error| Failed(format!("compile: {}: {error}", path.display())))
+}
+
+/// Writes a file beside the one that is meant, and puts it in its place.
+fn replace(file: &Path, bytes: &[u8]) -> std::io::Result<()> {
+    let name = file.file_name().ok_or_else(|| std::io::Error::other("this names no file"))?;
+    let new = file.with_file_name(format!(".{}.{}", name.to_string_lossy(), std::process::id()));
+    let done = std::fs::write(&new, bytes).and_then(|()| std::fs::rename(&new, file));
+    if done.is_err() {
         let _ = std::fs::remove_file(&new);
-        failed(error)
-    })
+    }
+    done
 }
 
 fn print(text: &str) -> Result<(), Failed> {
@@ -43,6 +67,11 @@ fn print(text: &str) -> Result<(), Failed> {
     out.write_all(text.as_bytes())
         .and_then(|()| out.flush())
         .map_err(|error| Failed(format!("compile: cannot print: {error}")))
+}
+
+/// Says it on standard error; where nothing can be said the exit status has to do.
+fn say(text: &str) {
+    let _ = std::io::stderr().write_all(text.as_bytes());
 }
 
 /// Whether the text was accepted.
@@ -56,6 +85,9 @@ fn run(arguments: &[PathBuf]) -> Result<bool, Failed> {
         [file, table] if !listing => (file, Some(table.clone())),
         _ => return Err(Failed(USAGE.into())),
     };
+    if let Some(table) = table.as_deref().filter(|table| same_file(table, file)) {
+        return Err(Failed(format!("compile: {}: TABLE is the text itself", table.display())));
+    }
     let text = read(file)?;
     if listing {
         print(&nodes(READER, &text).unwrap_or_default())?;
@@ -64,7 +96,7 @@ fn run(arguments: &[PathBuf]) -> Result<bool, Failed> {
         (Ok(bytes), Some(table)) => write(&table, &bytes).map(|()| true),
         (Ok(_), None) => Ok(true),
         (Err(said), _) => {
-            eprint!("{said}");
+            say(&said);
             Ok(false)
         }
     }
@@ -76,7 +108,7 @@ fn main() -> ExitCode {
         Ok(true) => ExitCode::SUCCESS,
         Ok(false) => ExitCode::from(1),
         Err(Failed(what)) => {
-            eprintln!("{what}");
+            say(&(what + "\n"));
             ExitCode::from(2)
         }
     }

@@ -287,6 +287,11 @@ impl<'t> Scan<'t> {
         self.frames.len()
     }
 
+    /// Whether the last word is a bracket whose head comes next.
+    pub fn at_head(&self) -> bool {
+        matches!(self.frames.last(), Some(Frame { role: Role::New, .. }))
+    }
+
     /// What must or may stand next, in words.
     pub fn wanted(&self) -> String {
         let Some(frame) = self.frames.last() else {
@@ -295,43 +300,46 @@ impl<'t> Scan<'t> {
                 None => "here stands a definition or the main expression".into(),
             };
         };
-        let head = self.shown(frame.head);
-        let count = |parts: usize, what: &str| match parts {
-            1 => format!("one {what}"),
-            parts => format!("{parts} {what}s"),
-        };
-        match (frame.role, frame.met) {
+        let wanted = match (frame.role, frame.met) {
+            (Role::New, _) if self.frames.len() == 1 => {
+                "an opening bracket is followed by an operator, the word of a form (`sense`, `rep`, `if` ..), \
+                 a definition's name or `def`"
+            }
             (Role::New, _) => {
-                "an opening bracket is followed by an operator, a word of the notation or a definition's name".into()
+                "an opening bracket is followed by an operator, the word of a form (`sense`, `rep`, `if` ..) \
+                 or a definition's name"
             }
-            (Role::Definition, 0) => "`def` is followed by the definition's name".into(),
-            (Role::Definition, 1) => "the parameters stand in brackets, also where there is one or none".into(),
-            (Role::Definition, 2) => "here stands the definition's body".into(),
-            (Role::Definition, _) => "a definition has one body, and a bracket closes it".into(),
-            (Role::Parameters, 4) => "a definition has at most 4 parameters".into(),
-            (Role::Parameters, _) => "here stands a parameter's name or the closing bracket".into(),
-            (Role::Form { kind: "rep", .. }, 0) => "`rep` is followed by the variable's name".into(),
-            (Role::Form { kind: "fold", .. }, 0) => {
-                "`fold-hood*` is followed by an operator or the name of a definition".into()
-            }
-            (Role::Form { kind: "rep", parts }, met) if met < parts => {
-                format!("{head} takes a name, an initial part and an update, and has {} so far", count(met, "part"))
-            }
-            (Role::Form { kind: "fold", parts }, met) if met < parts => {
-                format!("{head} takes a function, an initial number and a field, and has {} so far", count(met, "part"))
-            }
-            (Role::Form { parts, .. }, met) if met < parts => {
-                format!("{head} takes {}, and has {met} so far", count(parts, "operand"))
-            }
-            (Role::Form { kind: "rep" | "fold", .. }, _) => {
-                format!("{head} has all its parts, and a bracket closes it")
-            }
-            (Role::Form { parts: 0, .. }, _) => format!("{head} takes no operand, and a bracket closes it"),
-            (Role::Form { parts, .. }, _) => {
-                format!("{head} takes {}, and a bracket closes it", count(parts, "operand"))
-            }
-            (Role::Call, _) => "here stands an operand or the closing bracket".into(),
-        }
+            (Role::Definition, 0) => "`def` is followed by the definition's name",
+            (Role::Definition, 1) => "the parameters stand in brackets, also where there is one or none",
+            (Role::Definition, 2) => "here stands the definition's body",
+            (Role::Definition, _) => "a definition has one body, and a bracket closes it",
+            (Role::Parameters, 4) => "a definition has at most 4 parameters",
+            (Role::Parameters, _) => "here stands a parameter's name or the closing bracket",
+            (Role::Form { kind, parts }, met) => return wanted_in(&self.shown(frame.head), kind, parts, met),
+            (Role::Call, _) => "here stands an operand or the closing bracket",
+        };
+        wanted.into()
+    }
+}
+
+/// What must or may stand next in a form that has met so many of its parts.
+fn wanted_in(head: &str, kind: &str, parts: usize, met: usize) -> String {
+    let count = |parts: usize, what: &str| match parts {
+        1 => format!("one {what}"),
+        parts => format!("{parts} {what}s"),
+    };
+    let named = match kind {
+        "rep" => Some(("the variable's name", "a name, an initial part and an update")),
+        "fold" => Some(("an operator or the name of a definition", "a function, an initial number and a field")),
+        _ => None,
+    };
+    match named {
+        Some((first, _)) if met == 0 => format!("{head} is followed by {first}"),
+        Some((_, all)) if met < parts => format!("{head} takes {all}, and has {} so far", count(met, "part")),
+        Some(_) => format!("{head} has all its parts, and a bracket closes it"),
+        None if met < parts => format!("{head} takes {}, and has {met} so far", count(parts, "operand")),
+        None if parts == 0 => format!("{head} takes no operand, and a bracket closes it"),
+        None => format!("{head} takes {}, and a bracket closes it", count(parts, "operand")),
     }
 }
 

@@ -133,3 +133,15 @@ pub fn run_both(
     };
     [(returned.number1, returned.place1), (returned.number2, returned.place2)]
 }
+
+// ---- Since 0.4.0: from here on `../before` leaves out what its library does not have.
+
+extern "C" {
+    fn cuddystove_read_text(text: *const u8, text_length: usize, table: *mut u8, table_length: usize) -> Verdict;
+}
+
+/// [`read_text`](crate::read_text); with number 0 the place is the table's length.
+pub fn read_text(text: &[u8], table: &mut [u8]) -> (u32, usize) {
+    // SAFETY: each pointer and length are those of one slice; the one that is written is lent to nobody else.
+    pair(unsafe { cuddystove_read_text(text.as_ptr(), text.len(), table.as_mut_ptr(), table.len()) })
+}

@@ -3,7 +3,7 @@ use core::{error, fmt};
 use crate::words::words;
 use crate::BLOCK;
 
-/// A call that was refused as a whole, with a number from 1 to 13 (`docs/MANUAL.md`, 9).
+/// A call that was refused as a whole, with a number from 1 to 13, or 19 or 20 (`docs/MANUAL.md`, 9).
 #[derive(Clone, Debug, PartialEq, Eq)]
 #[non_exhaustive]
 pub struct Refusal {
@@ -11,7 +11,8 @@ pub struct Refusal {
     pub number: u32,
     /// A short name for the number.
     pub name: &'static str,
-    /// Where: a field of the program, a node, a cell or an event, all counted from 0; else 0.
+    /// Where: a field of the program, a node, a cell or an event, all counted from 0; of 19 how many bytes of the text
+    /// begin one of the notation; else 0.
     pub place: usize,
 }
 
@@ -49,9 +50,19 @@ impl fmt::Display for Sentence {
             7..=9 => ("A node", "Node"),
             11 => return unsound(f, place),
             12 => ("An event", "Event"),
+            19 => return outside(f, sentence.trim_end_matches('.'), place),
             _ => return f.write_str(sentence),
         };
         write!(f, "{counted} {place}{}", sentence.strip_prefix(general).unwrap_or(sentence))
+    }
+}
+
+/// 19: how much of the text begins one of the notation.
+fn outside(f: &mut fmt::Formatter, sentence: &str, place: usize) -> fmt::Result {
+    match place {
+        0 => write!(f, "{sentence}, and none begins as it does."),
+        1 => write!(f, "{sentence}; its first byte begins one."),
+        _ => write!(f, "{sentence}; its first {place} bytes begin one."),
     }
 }
 

@@ -3,7 +3,7 @@
 use std::collections::BTreeSet;
 
 use cuddystove::{
-    answers, cells, check, event, fresh, run, run_both, Answer, Refusal, ABSENT, BLOCK, CELLS, INF, OLDEST,
+    answers, cells, check, event, fresh, read_text, run, run_both, Answer, Refusal, ABSENT, BLOCK, CELLS, INF, OLDEST,
 };
 
 /// 01's program (i): (rep x 0 (+ x 1)).
@@ -42,6 +42,59 @@ fn check_accepts_and_refuses() {
     for cut in 1..COUNTER.len() {
         assert!(check(&COUNTER[..cut]).is_err(), "cut after {cut}");
     }
+}
+
+/// A text's table starts the slice, and the rest stays; a slice that is one byte too short gets 13.
+#[test]
+fn read_text_writes_the_table() {
+    let mut table = [7; 64];
+    assert_eq!(read_text(b"(rep x 0\n  (+ x 1))\n", &mut table), Ok(COUNTER.len()));
+    assert_eq!(table[..COUNTER.len()], COUNTER);
+    assert_eq!(table[COUNTER.len()..], [7; 64 - COUNTER.len()]);
+    assert_eq!(read_text(b"(/ 1 0)", &mut table), Ok(DIVIDES.len()));
+    assert_eq!(table[..DIVIDES.len()], DIVIDES);
+    assert_eq!(table[DIVIDES.len()..COUNTER.len()], COUNTER[DIVIDES.len()..]);
+    for length in [COUNTER.len(), COUNTER.len() + 1] {
+        assert_eq!(read_text(b"(rep x 0 (+ x 1))", &mut table[..length]), Ok(COUNTER.len()));
+    }
+    for length in [0, 1, COUNTER.len() - 1] {
+        let mut short = vec![7; length];
+        let refusal = read_text(b"(rep x 0 (+ x 1))", &mut short).expect_err("too short");
+        assert_eq!((refusal.number, refusal.place), (13, 0));
+        assert!(short.iter().all(|byte| *byte == 7), "{length}");
+    }
+}
+
+/// Each refusal of a text comes with its place, writes nothing, and comes before 13.
+#[test]
+fn read_text_refuses() {
+    for (text, number, place) in [
+        ("", 19, 0),
+        ("(+ 1", 19, 4),
+        ("(+ 1)", 19, 4),
+        ("(+\t1 2)", 19, 2),
+        ("if", 19, 2),
+        ("2147483648", 19, 9),
+        ("abcdefghijklmnopq", 19, 16),
+        ("1 x", 19, 2),
+        ("x", 20, 0),
+        ("(rep x x 1)", 20, 0),
+        ("(def f () (f)) 1", 20, 0),
+        ("(def if () 1) 1", 20, 0),
+        ("(def f (a a) a) (f 1 2)", 20, 0),
+        ("(def f (a) a) (f 1 2)", 1, 4),
+        ("(nbr 1)", 7, 1),
+        ("(def f () (rep x 0 x)) (+ (f) (f))", 9, 4),
+    ] {
+        let mut table = [7; 128];
+        for length in [0, 1, 128] {
+            let refusal = read_text(text.as_bytes(), &mut table[..length]).expect_err(text);
+            assert_eq!((refusal.number, refusal.place), (number, place), "{text}");
+        }
+        assert_eq!(table, [7; 128], "{text}");
+    }
+    let deep = ["(sense ".repeat(256), "1".into(), ")".repeat(256)].concat();
+    assert_eq!(read_text(deep.as_bytes(), &mut []).map_err(|refusal| (refusal.number, refusal.place)), Err((2, 256)));
 }
 
 #[test]
@@ -154,6 +207,12 @@ fn refusals_in_words() {
         "refused 1 5 (bad field): Field 5 of the program is cut short, of unknown tag, of the wrong length or without \
          a kind byte."
     );
+    let refusal = read_text(b"(rep x 0 (+ x))", &mut []).expect_err("an operand is missing");
+    assert_eq!(
+        refusal.to_string(),
+        "refused 19 13 (outside the notation): The text is outside the notation: no program is written so; its first 13 \
+         bytes begin one."
+    );
     let refusal = fresh(&mut [0; 3]).expect_err("too short");
     assert_eq!(refusal.sentence().to_string(), "The network is not 8,720 cells long.");
     let mut network = fresh_network();
@@ -170,25 +229,25 @@ fn refusals_in_words() {
 /// Each number has a name and a sentence of its own, be it returned or answered.
 #[test]
 fn every_number_has_its_words() {
-    let returned =
-        (1..=13).map(|number| Refusal::new(number, 7)).map(|refusal| (refusal.name, refusal.sentence().to_string()));
+    let returned = (1..=13).chain(18..=20).map(|number| Refusal::new(number, 7));
+    let returned = returned.map(|refusal| (refusal.name, refusal.sentence().to_string()));
     let answered = (14..=17).map(|number| {
         let answer = Answer::from_pair([number, 0]).expect("an answer");
         assert_eq!(answer.number(), number as u32);
         (answer.name(), answer.sentence().to_string())
     });
     let done = (done(0).name(), done(0).sentence().to_string());
-    let other = Refusal::new(18, 7);
+    let other = Refusal::new(21, 7);
     let other = (other.name, other.sentence().to_string());
     let words: Vec<(&str, String)> = returned.chain(answered).chain([done, other]).collect();
     let names: BTreeSet<&str> = words.iter().map(|(name, _)| *name).collect();
     let sentences: BTreeSet<&str> = words.iter().map(|(_, sentence)| &sentence[..]).collect();
-    assert_eq!((words.len(), names.len(), sentences.len()), (19, 19, 19), "{words:?}");
+    assert_eq!((words.len(), names.len(), sentences.len()), (22, 22, 22), "{words:?}");
     for (name, sentence) in &words {
         assert!(!name.is_empty() && sentence.ends_with('.'), "{name}: {sentence}");
     }
     // The place stands in the sentence of a refusal that has one.
-    for number in [1, 2, 3, 4, 5, 7, 8, 9, 11, 12] {
+    for number in [1, 2, 3, 4, 5, 7, 8, 9, 11, 12, 19] {
         assert!(Refusal::new(number, 4_321).sentence().to_string().contains(" 4321 "), "{number}");
     }
 }

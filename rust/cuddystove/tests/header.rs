@@ -107,11 +107,11 @@ fn tags_agree() {
 fn names_agree() {
     let mut names = quoted(function("static inline const char *cuddystove_name("));
     let unknown = names.pop().expect("a name for others");
-    assert_eq!(names.len(), 18);
+    assert_eq!(names.len(), 21);
     for (number, name) in (0..).zip(&names) {
         assert_eq!(Refusal::new(number, 0).name, *name);
     }
-    for number in [18, 19, 99, u32::MAX] {
+    for number in [21, 22, 99, u32::MAX] {
         assert_eq!(Refusal::new(number, 0).name, unknown);
     }
     for number in [0, 14, 15, 16, 17] {
@@ -123,10 +123,10 @@ fn names_agree() {
 /// The header's sentences by number, and last the one for other numbers.
 fn sentences() -> Vec<&'static str> {
     let numbers = enumerators();
-    let mut sentences = vec![""; 19];
+    let mut sentences = vec![""; 22];
     for line in function("static inline const char *cuddystove_sentence(").lines() {
         let Some((case, rest)) = line.trim().split_once(": return ") else { continue };
-        let number = case.strip_prefix("case CUDDYSTOVE_").map_or(18, |name| numbers[name]);
+        let number = case.strip_prefix("case CUDDYSTOVE_").map_or(21, |name| numbers[name]);
         sentences[number as usize] = quoted(rest)[0];
     }
     sentences
@@ -139,13 +139,18 @@ fn with_place(general: &str, place: usize) -> String {
             return ours.replace("{}", &place.to_string()) + rest;
         }
     }
-    general.to_string()
+    match (general.strip_suffix("no program is written so."), place) {
+        (None, _) => general.to_string(),
+        (Some(front), 0) => format!("{front}no program is written so, and none begins as it does."),
+        (Some(front), 1) => format!("{front}no program is written so; its first byte begins one."),
+        (Some(front), _) => format!("{front}no program is written so; its first {place} bytes begin one."),
+    }
 }
 
 #[test]
 fn sentences_agree() {
     let theirs = sentences();
-    assert_eq!(theirs.iter().collect::<BTreeSet<_>>().len(), 19, "{theirs:?}");
+    assert_eq!(theirs.iter().collect::<BTreeSet<_>>().len(), 22, "{theirs:?}");
     assert!(theirs.iter().all(|sentence| sentence.ends_with('.')));
     for (number, general) in (0..).zip(&theirs).filter(|(number, _)| *number != 11) {
         for place in [0, 1, 38, 8_719] {
@@ -175,5 +180,5 @@ fn comments_agree() {
         let number = whole(item.split(" = ").last().expect("a number").trim_end_matches([' ', ',']));
         assert!(number == 0 || theirs[number as usize] == comment, "{line}");
     }
-    assert_eq!(refusals.lines().filter(|line| line.starts_with("    CUDDYSTOVE_")).count(), 18);
+    assert_eq!(refusals.lines().filter(|line| line.starts_with("    CUDDYSTOVE_")).count(), 21);
 }

@@ -110,6 +110,9 @@ fn text_stage(
         println!("    {label}: {}", numbers.join(", "));
     }
     println!("  returned: {:?}", report.returned);
+    if readers.len() < 2 {
+        println!("  without CUDDYSTOVE_LIB nothing was compared; one reader was held to what is known of each text");
+    }
     println!("  {} labels, {} texts, {:.1} s", report.labels.len(), report.cases, start.elapsed().as_secs_f32());
     let wrong = report.difference.as_ref().map_or_else(|| gaps(&report), |difference| vec![difference.clone()]);
     for what in &wrong {
@@ -173,7 +176,9 @@ fn main() -> ExitCode {
     let gaps = |report: &Report| if few { vec![] } else { report.gaps() };
     let mut passed = stage(engines, "systematic cases", || compare_systematic(engines), Report::systematic_gaps);
     passed &= stage(engines, &what, || compare_all(engines, seed, cases), gaps);
-    // The proved engine's reader comes in here.
+    #[cfg(feature = "proved")]
+    let readers: &[&dyn Reader] = &[&differ::Proved, &Second];
+    #[cfg(not(feature = "proved"))]
     let readers: &[&dyn Reader] = &[&Second];
     let gaps = |report: &TextReport| if few { vec![] } else { report.random_gaps() };
     passed &= text_stage(readers, "systematic texts", || compare_every_text(readers), TextReport::systematic_gaps);

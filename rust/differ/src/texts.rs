@@ -18,6 +18,13 @@ impl Reader for Second {
     }
 }
 
+#[cfg(feature = "proved")]
+impl Reader for crate::Proved {
+    fn read_text(&self, text: &[u8], table: &mut [u8]) -> Returned {
+        cuddystove::plain::read_text(text, table)
+    }
+}
+
 impl Reader for Mutant {
     fn read_text(&self, text: &[u8], table: &mut [u8]) -> Returned {
         Mutant::read_text(*self, text, table)

@@ -32,6 +32,17 @@ fn copy_without_a_bug() {
     alike(&compare_texts(&[&Second, &Mutant(usize::MAX)], 202, 5_000));
 }
 
+#[cfg(feature = "proved")]
+#[test]
+fn proved_reader_against_second_reader() {
+    let report = compare_texts(&[&differ::Proved, &Second], 207, 20_000);
+    alike(&report);
+    assert_eq!(report.random_gaps(), [""; 0]);
+    let report = compare_every_text(&[&differ::Proved, &Second]);
+    alike(&report);
+    assert_eq!(report.systematic_gaps(), [""; 0]);
+}
+
 /// Each bug has a name of its own.
 #[test]
 fn mutants_are_counted() {

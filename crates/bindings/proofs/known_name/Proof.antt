@@ -2,7 +2,7 @@
 use lib.ListN.{take}
 use borrow.Author.Needs.{needs}
 use Rattle.notation.proofs.Lexing.{lex}
-use Rattle.bindings.specs.Scan.{definitionsIn}
+use Rattle.token_scans.specs.Scan.{definitionsIn}
 use Rattle.bindings.proofs.Goods.{known-word, known-among}
 use Rattle.bindings.proofs.known_name.Statement.{statement}
 use Rattle.bindings.proofs.known_name.Tie as tie

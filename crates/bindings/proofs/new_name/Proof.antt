@@ -2,7 +2,7 @@
 use borrow.Author.Needs.{needs}
 use Rattle.notation.proofs.Lexing.{lex}
 use Rattle.notation.specs.Words.{between}
-use Rattle.bindings.specs.Scan.{wordsIn}
+use Rattle.token_scans.specs.Scan.{wordsIn}
 use Rattle.bindings.proofs.Goods.{reserved-word, new-among}
 use Rattle.bindings.proofs.new_name.Statement.{statement}
 use Rattle.bindings.proofs.new_name.Tie as tie

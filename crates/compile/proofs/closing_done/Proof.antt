@@ -13,21 +13,17 @@ use Rattle.compile.proofs.definition_done.Reads as definition-done-read
 use Rattle.compile.proofs.ends_definition.Reads as ends-definition-reads
 use Rattle.compile.proofs.form_done.Reads as form-done-reads
 
--- src/lib.rt:175:9
 returns : tie.Need-returns
 returns c =
     let z = c .before .before in
     adds-nothing _ _ _ (z .pre .3) _ (λ q. on-parameters (lex (take (z .args .top) (now (z .args .s)))) (lex (between (z .args .top) (z .args .at) (now (z .args .s)))) _ _ q (c .if1 .taken))
 
--- src/lib.rt:177:8
 ends-definition-requires : tie.Need-ends-definition-requires
 ends-definition-requires c κs = search needs
 
--- src/lib.rt:178:9
 definition-done-requires : tie.Need-definition-done-requires
 definition-done-requires c κs = search needs
 
--- src/lib.rt:178:9
 returns-2 : tie.Need-returns-2
 returns-2 c =
     let t = c .before .before .before in
@@ -36,11 +32,9 @@ returns-2 c =
     adds-as _ _ _ _ _ _ _ _ (λ q. on-definition (lex (take (z .args .top) (now (z .args .s)))) (lex (between (z .args .top) (z .args .at) (now (z .args .s)))) _ _ q (e .before .if1 .left)
     (sym (e .ends-definition .ensures) ∙ t .if2 .taken)) (c .definition-done .ensures)
 
--- src/lib.rt:180:5
 form-done-requires : tie.Need-form-done-requires
 form-done-requires c κs = search needs
 
--- src/lib.rt:160:1
 returns-3 : tie.Need-returns-3
 returns-3 c =
     let t = c .before .before .before in

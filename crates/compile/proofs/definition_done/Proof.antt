@@ -11,31 +11,24 @@ use Rattle.forms.proofs.parameters_of.Reads as parameters-of-reads
 use Rattle.parts.proofs.byte_of.Reads as byte-of-reads
 use Rattle.table_writer.proofs.definition.Reads as definition-reads
 
--- src/lib.rt:137:9
 parameters-of-requires : tie.Need-parameters-of-requires
 parameters-of-requires c κs = search needs
 
--- src/lib.rt:139:52
 byte-of-requires : tie.Need-byte-of-requires
 byte-of-requires c κs = search needs
 
--- src/lib.rt:139:71
 last-requires : tie.Need-last-requires
 last-requires c κs = search needs
 
--- src/lib.rt:139:9
 definition-requires : tie.Need-definition-requires
 definition-requires c κs = search needs
 
--- src/lib.rt:142:13
 below-requires : tie.Need-below-requires
 below-requires c κs = search needs
 
--- src/lib.rt:144:15
 add-t14 : tie.Need-add-t14
 add-t14 c = search needs
 
--- src/lib.rt:125:1
 returns : tie.Need-returns
 returns c =
     let b = c .before .before in

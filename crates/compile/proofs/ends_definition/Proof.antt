@@ -7,15 +7,12 @@ use Rattle.compile.proofs.ends_definition.Reads as reads
 use Rattle.compile.proofs.ends_definition.Lts as lts
 use Rattle.forms.proofs.is_definition.Reads as is-definition-reads
 
--- src/lib.rt:154:9
 is-definition-requires : tie.Need-is-definition-requires
 is-definition-requires c κs = search needs
 
--- src/lib.rt:154:9
 returns : tie.Need-returns
 returns c = c .is-definition .ensures ∙ sym (rw (c .before .if1 .taken))
 
--- src/lib.rt:149:1
 returns-2 : tie.Need-returns-2
 returns-2 c = sym (rw (ne-eqb _ 1 (c .if1 .left)))
 

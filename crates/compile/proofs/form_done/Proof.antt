@@ -1,5 +1,5 @@
 use borrow.Author.Tests.{not-true, not-false}
-use Rattle.compile.proofs.Adding.{Pushed, form-none, form-by}
+use Rattle.compile.proofs.Adding.{form-none, form-by}
 use borrow.Author.Needs.{needs}
 use Rattle.compile.proofs.form_done.Statement.{statement}
 use Rattle.compile.proofs.form_done.Tie as tie
@@ -12,37 +12,29 @@ use Rattle.forms.proofs.form_of.Reads as form-of-reads
 use Rattle.parts.proofs.put_form.Reads as put-form-reads
 use Rattle.vocabulary.proofs.code.Reads as code-reads
 
--- src/lib.rt:105:9
 form-of-requires : tie.Need-form-of-requires
 form-of-requires c κs = search needs
 
--- src/lib.rt:107:9
 returns : tie.Need-returns
 returns c =
     let b = c .before .before in
     form-none _ _ _ _ (b .form-of .ensures) _ _ _ (b .before .before .pre .3) (not-true _ (c .if1 .taken))
 
--- src/lib.rt:110:34
 code-requires : tie.Need-code-requires
 code-requires c κs = search needs
 
--- src/lib.rt:110:9
 operands-of-requires : tie.Need-operands-of-requires
 operands-of-requires c κs = search needs
 
--- src/lib.rt:111:9
 below-requires : tie.Need-below-requires
 below-requires c κs = search needs
 
--- src/lib.rt:120:9
 put-form-requires : tie.Need-put-form-requires
 put-form-requires c κs = search needs
 
--- src/lib.rt:121:5
 push-requires : tie.Need-push-requires
 push-requires c κs = search needs
 
--- src/lib.rt:93:1
 returns-2 : tie.Need-returns-2
 returns-2 c =
     let u = c .before .before in

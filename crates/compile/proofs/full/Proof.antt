@@ -5,11 +5,9 @@ use Rattle.compile.proofs.full.Tie as tie
 use Rattle.compile.proofs.full.Reads as reads
 use Rattle.compile.proofs.full.Lts as lts
 
--- src/lib.rt:208:9
 returns : tie.Need-returns
 returns c = sym (rw (lt-ltb 256 _ (c .if1 .taken)))
 
--- src/lib.rt:204:1
 returns-2 : tie.Need-returns-2
 returns-2 c = sym (rw (le-ltb 256 _ (c .before .if1 .left)))
 

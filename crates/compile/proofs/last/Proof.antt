@@ -6,19 +6,15 @@ use Rattle.compile.proofs.last.Tie as tie
 use Rattle.compile.proofs.last.Reads as reads
 use Rattle.compile.proofs.last.Lts as lts
 
--- src/lib.rt:54:9
 returns : tie.Need-returns
 returns c = sym (rw (c .if1 .taken))
 
--- src/lib.rt:56:11
 sub-result : tie.Need-sub-result
 sub-result c = search needs
 
--- src/lib.rt:56:5
 element-copy-out-result : tie.Need-element-copy-out-result
 element-copy-out-result c = search needs
 
--- src/lib.rt:49:1
 returns-2 : tie.Need-returns-2
 returns-2 c = sym (rw (ne-eqb _ 0 (c .before .if1 .left)))
 

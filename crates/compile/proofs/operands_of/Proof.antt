@@ -11,11 +11,9 @@ use Rattle.compile.proofs.operands_of.Reads as reads
 use Rattle.compile.proofs.operands_of.Lts as lts
 use Rattle.compile.proofs.below.Reads as below-reads
 
--- src/lib.rt:36:5
 below-requires : tie.Need-below-requires
 below-requires c κs = search needs
 
--- src/lib.rt:28:1
 lead : (c : tie.After-below) → leads (headByCode (c .before .before .args .k)) ≡ c .before .match .lead
 lead c =
     ⊎-elim (λ x. ap (λ (k : ℕ). leads (headByCode k)) (x .0 .keys1) ∙ rep-lead ∙ sym (x .1))

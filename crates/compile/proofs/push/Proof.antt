@@ -9,23 +9,18 @@ use Rattle.compile.proofs.push.Reads as reads
 use Rattle.compile.proofs.push.Lts as lts
 use Rattle.parts.proofs.byte_of.Reads as byte-of-reads
 
--- src/lib.rt:64:19
 byte-of-requires : tie.Need-byte-of-requires
 byte-of-requires c κs = search needs
 
--- src/lib.rt:64:5
 element-write-stack : tie.Need-element-write-stack
 element-write-stack c = search needs
 
--- src/lib.rt:67:13
 add-t8 : tie.Need-add-t8
 add-t8 c = search needs
 
--- src/lib.rt:68:16
 add-t9 : tie.Need-add-t9
 add-t9 c = search needs
 
--- src/lib.rt:60:1
 returns : tie.Need-returns
 returns c = (ap (λ (n : ℕ). set (now (c .before .before .args .stack)) (c .before .before .args .from) n) (c .before .byte-of .ensures), refl, refl, refl, refl)
 

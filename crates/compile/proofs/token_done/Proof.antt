@@ -11,41 +11,38 @@ use Rattle.compile.proofs.token_done.Lts as lts
 use Rattle.compile.proofs.closing_done.Reads as closing-done-reads
 use Rattle.compile.proofs.word_done.Reads as word-done-reads
 
--- src/lib.rt:192:9
 returns : tie.Need-returns
 returns c =
     let z = c .before .before in
     adds-nothing _ _ _ (z .pre .4) _ (λ q. on-opening (lex (take (z .args .top) (now (z .args .s)))) (lex (between (z .args .top) (z .args .a) (now (z .args .s)))) _ _ q _ _ (c .if1 .taken))
 
--- src/lib.rt:195:9
 closing-done-requires : tie.Need-closing-done-requires
 closing-done-requires c κs = search needs
 
--- src/lib.rt:195:9
 returns-2 : tie.Need-returns-2
 returns-2 c =
     let t = c .before .before .before in
     let z = t .before .before .before in
-    adds-as _ _ _ _ _ _ _ _ (λ q. on-closing (lex (take (z .args .top) (now (z .args .s)))) (lex (between (z .args .top) (z .args .a) (now (z .args .s)))) _ _ q _ _ (t .if2 .taken)) (c .closing-done .ensures)
+    adds-as _ _ _ _ _ _ _ _ (λ q. on-closing (lex (take (z .args .top) (now (z .args .s)))) (lex (between (z .args .top) (z .args .a) (now (z .args .s)))) _ _ q _ _ (t .if2 .taken))
+    (c .closing-done .ensures)
 
--- src/lib.rt:198:9
 word-done-requires : tie.Need-word-done-requires
 word-done-requires c κs = search needs
 
--- src/lib.rt:198:9
 returns-3 : tie.Need-returns-3
 returns-3 c =
     let t = c .before .before .before in
     let b = t .before in
     let z = b .before .before .before in
-    adds-as _ _ _ _ _ _ _ _ (λ q. on-word (lex (take (z .args .top) (now (z .args .s)))) (lex (between (z .args .top) (z .args .a) (now (z .args .s)))) _ _ q _ _ (b .before .if1 .left) (b .if2 .left) (t .if3 .taken)) (c .word-done .ensures)
+    adds-as _ _ _ _ _ _ _ _ (λ q. on-word (lex (take (z .args .top) (now (z .args .s)))) (lex (between (z .args .top) (z .args .a) (now (z .args .s))))
+    _ _ q _ _ (b .before .if1 .left) (b .if2 .left) (t .if3 .taken)) (c .word-done .ensures)
 
--- src/lib.rt:175:1
 returns-4 : tie.Need-returns-4
 returns-4 c =
     let b = c .before in
     let z = b .before .before .before in
-    adds-nothing _ _ _ (z .pre .4) _ (λ q. on-name (lex (take (z .args .top) (now (z .args .s)))) (lex (between (z .args .top) (z .args .a) (now (z .args .s)))) _ _ q _ _ (b .before .if1 .left) (b .if2 .left) (c .if3 .left))
+    adds-nothing _ _ _ (z .pre .4) _ (λ q. on-name (lex (take (z .args .top) (now (z .args .s)))) (lex (between (z .args .top) (z .args .a) (now (z .args .s))))
+    _ _ q _ _ (b .before .if1 .left) (b .if2 .left) (c .if3 .left))
 
 pub token-done-spec : {M : Type 1} → statement M
 token-done-spec =

@@ -1,5 +1,5 @@
 use denote.Ref.{now}
-use Rattle.compile.proofs.Adding.{Pushed, word-adds}
+use Rattle.compile.proofs.Adding.{word-adds}
 use borrow.Author.Needs.{needs}
 use Rattle.compile.proofs.word_done.Statement.{statement}
 use Rattle.compile.proofs.word_done.Tie as tie
@@ -8,15 +8,12 @@ use Rattle.compile.proofs.word_done.Lts as lts
 use Rattle.compile.proofs.push.Reads as push-reads
 use Rattle.parts.proofs.put_word.Reads as put-word-reads
 
--- src/lib.rt:88:9
 put-word-requires : tie.Need-put-word-requires
 put-word-requires c κs = search needs
 
--- src/lib.rt:89:5
 push-requires : tie.Need-push-requires
 push-requires c κs = search needs
 
--- src/lib.rt:74:1
 returns : tie.Need-returns
 returns c =
     let z = c .before .before .before .before .before in

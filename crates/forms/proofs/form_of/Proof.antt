@@ -2,7 +2,7 @@
 use mathlib.Core.Path.{sym, _∙_}
 use native.Mathlib.Omega.{arith}
 use borrow.Author.Needs.{needs}
-use Rattle.vocabulary.proofs.Between.{length-between}
+use Rattle.notation.proofs.Between.{length-between}
 use Rattle.forms.proofs.Closing.{Closing, closing-first, closing-end, closing-none, closing-within, closing-less, closing-found, closing-next}
 use Rattle.forms.proofs.form_of.Statement.{statement}
 use Rattle.forms.proofs.form_of.Tie as tie

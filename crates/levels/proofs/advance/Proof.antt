@@ -7,52 +7,41 @@ use Rattle.levels.proofs.advance.Lts as lts
 use Rattle.levels.proofs.inner.Reads as inner-reads
 use Rattle.levels.proofs.put.Reads as put-reads
 
--- src/lib.rt:138:9
 put-requires : tie.Need-put-requires
 put-requires c κs = search needs
 
--- src/lib.rt:139:27
 add-put : tie.Need-add-put
 add-put c = search needs
 
--- src/lib.rt:139:38
 inner-requires : tie.Need-inner-requires
 inner-requires c κs = search needs
 
--- src/lib.rt:139:9
 put-requires-2 : tie.Need-put-requires-2
 put-requires-2 c κs = search needs
 
--- src/lib.rt:140:16
 add-result : tie.Need-add-result
 add-result c = search needs
 
--- src/lib.rt:140:9
 returns : tie.Need-returns
 returns c =
     let a = c .before .before .before .before .before .before .args in
     opened (a .base) (a .depth) (a .c) (a .m) (a .kind) (a .levels .now)
     (c .before .before .before .before .before .if1 .taken) (c .before .before .before .put .ensures) (c .before .inner .ensures) (c .put2 .ensures)
 
--- src/lib.rt:143:16
 sub-result : tie.Need-sub-result
 sub-result c = c .before .before .pre .1 (c .if2 .taken)
 
--- src/lib.rt:143:9
 returns-2 : tie.Need-returns-2
 returns-2 c =
     let a = c .before .before .args in
     closed (a .base) (a .depth) (a .c) (a .m) (a .kind) (a .levels .now) (c .if2 .taken)
 
--- src/lib.rt:146:9
 put-requires-3 : tie.Need-put-requires-3
 put-requires-3 c κs = search needs
 
--- src/lib.rt:147:9
 put-requires-4 : tie.Need-put-requires-4
 put-requires-4 c κs = search needs
 
--- src/lib.rt:148:9
 returns-3 : tie.Need-returns-3
 returns-3 c =
     let a = c .before .before .before .before .before .before .before .args in
@@ -60,11 +49,9 @@ returns-3 c =
     (c .before .before .before .before .before .before .if1 .left) (c .before .before .before .before .before .if2 .left) (c .before .before .before .before .if3 .taken)
     (c .before .before .put3 .ensures) (c .put4 .ensures)
 
--- src/lib.rt:150:5
 put-requires-5 : tie.Need-put-requires-5
 put-requires-5 c κs = search needs
 
--- src/lib.rt:126:1
 returns-4 : tie.Need-returns-4
 returns-4 c =
     let a = c .before .before .before .before .before .args in

@@ -7,49 +7,40 @@ use Rattle.levels.proofs.front.Statement.{statement}
 use Rattle.levels.proofs.front.Tie as tie
 use Rattle.levels.proofs.front.Reads as reads
 use Rattle.levels.proofs.front.Lts as lts
-use Rattle.vocabulary.proofs.atom_front.Reads as atom-front-reads
-use Rattle.vocabulary.proofs.function_front.Reads as function-front-reads
-use Rattle.vocabulary.proofs.name_front.Reads as name-front-reads
+use Rattle.fronts.proofs.atom_front.Reads as atom-front-reads
+use Rattle.fronts.proofs.function_front.Reads as function-front-reads
+use Rattle.fronts.proofs.name_front.Reads as name-front-reads
 
--- src/lib.rt:78:9
 returns : tie.Need-returns
 returns c = sym (rw (ne-eqb (c .before .before .args .kind) 3 (c .if1 .taken)))
 
--- src/lib.rt:80:17
 array-read-class : tie.Need-array-read-class
 array-read-class c = search needs
 
--- src/lib.rt:82:14
 atom-front-requires : tie.Need-atom-front-requires
 atom-front-requires c κs = search needs
 
--- src/lib.rt:83:14
 name-front-requires : tie.Need-name-front-requires
 name-front-requires c κs = search needs
 
--- src/lib.rt:84:14
 function-front-requires : tie.Need-function-front-requires
 function-front-requires c κs = search needs
 
--- src/lib.rt:73:1
 returns-2 : tie.Need-returns-2
 returns-2 c =
     let a = c .before .before .before .before .args in
     c .atom-front .ensures ∙ sym (front-by (a .c) (a .kind) 1 _ (c .before .before .if1 .left) (c .before .match .keys1))
 
--- src/lib.rt:73:1
 returns-3 : tie.Need-returns-3
 returns-3 c =
     let a = c .before .before .before .before .args in
     c .name-front .ensures ∙ sym (front-by (a .c) (a .kind) 2 _ (c .before .before .if1 .left) (c .before .match .keys2))
 
--- src/lib.rt:73:1
 returns-4 : tie.Need-returns-4
 returns-4 c =
     let a = c .before .before .before .before .args in
     c .function-front .ensures ∙ sym (front-by (a .c) (a .kind) 3 _ (c .before .before .if1 .left) (c .before .match .keys3))
 
--- src/lib.rt:73:1
 returns-5 : tie.Need-returns-5
 returns-5 c =
     let h = c .match .rest in

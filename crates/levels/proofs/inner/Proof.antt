@@ -5,15 +5,12 @@ use Rattle.levels.proofs.inner.Tie as tie
 use Rattle.levels.proofs.inner.Reads as reads
 use Rattle.levels.proofs.inner.Lts as lts
 
--- src/lib.rt:115:1
 returns : tie.Need-returns
 returns c = sym (rw (c .match .keys1))
 
--- src/lib.rt:115:1
 returns-2 : tie.Need-returns-2
 returns-2 c = sym (rw (c .match .keys2))
 
--- src/lib.rt:115:1
 returns-3 : tie.Need-returns-3
 returns-3 c = let h = c .match .rest in sym (rw (ne-eqb (c .before .args .c) 0 (h .0 .1), ne-eqb (c .before .args .c) 12 (h .1)))
 

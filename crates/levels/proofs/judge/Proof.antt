@@ -9,24 +9,20 @@ use Rattle.levels.proofs.judge.Tie as tie
 use Rattle.levels.proofs.judge.Reads as reads
 use Rattle.levels.proofs.judge.Lts as lts
 use Rattle.levels.proofs.moved.Reads as moved-reads
-use Rattle.levels.proofs.token_code.Reads as token-code-reads
+use Rattle.vocabulary.proofs.token_code.Reads as token-code-reads
 
--- src/lib.rt:67:9
 returns : tie.Need-returns
 returns c = sym (rw (c .if1 .taken))
 
--- src/lib.rt:69:14
 token-code-requires : tie.Need-token-code-requires
 token-code-requires c κs = search needs
 
--- src/lib.rt:69:5
 moved-requires : tie.Need-moved-requires
 moved-requires c κs =
     let p = c .before .before .before .pre .0 in
     let d = c .before .if1 .left in
     (omega (arith, d), rw (c .token-code .ensures) (code-below (c .before .before .before .args .kind) _))
 
--- src/lib.rt:62:1
 returns-2 : tie.Need-returns-2
 returns-2 c =
     let n = c .before .before .before .before .args .c in

@@ -8,19 +8,15 @@ use Rattle.levels.proofs.level.Tie as tie
 use Rattle.levels.proofs.level.Reads as reads
 use Rattle.levels.proofs.level.Lts as lts
 
--- src/lib.rt:95:9
 returns : tie.Need-returns
 returns c = (sym (rw (not-reached (c .before .args .base) (c .before .args .depth) (c .if1 .taken))), omega arith)
 
--- src/lib.rt:98:9
 returns-2 : tie.Need-returns-2
 returns-2 c = (sym (rw (passed (c .before .before .args .base) (c .before .before .args .depth) (c .before .if1 .left) (c .if2 .taken))), omega arith)
 
--- src/lib.rt:100:5
 element-copy-out-result : tie.Need-element-copy-out-result
 element-copy-out-result c = search needs
 
--- src/lib.rt:90:1
 returns-3 : tie.Need-returns-3
 returns-3 c =
     let a = c .before .before .before .args in

@@ -7,19 +7,15 @@ use Rattle.levels.proofs.put.Tie as tie
 use Rattle.levels.proofs.put.Reads as reads
 use Rattle.levels.proofs.put.Lts as lts
 
--- src/lib.rt:107:9
 returns : tie.Need-returns
 returns c = sym (rw (not-reached (c .before .args .base) (c .before .args .depth) (c .if1 .taken)))
 
--- src/lib.rt:110:9
 element-write-levels : tie.Need-element-write-levels
 element-write-levels c = search needs
 
--- src/lib.rt:103:1
 returns-2 : tie.Need-returns-2
 returns-2 c = sym (rw (held (c .before .before .args .base) (c .before .before .args .depth) (c .before .if1 .left) (omega arith)))
 
--- src/lib.rt:103:1
 returns-3 : tie.Need-returns-3
 returns-3 c = sym (rw (passed (c .before .before .args .base) (c .before .before .args .depth) (c .before .if1 .left) (omega arith)))
 

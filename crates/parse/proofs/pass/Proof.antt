@@ -1,5 +1,5 @@
 -- `parse::pass` meets its contract. Assumes nothing.
-use mathlib.Core.Path.{_≡_, refl, sym, ap, subst, _∙_}
+use mathlib.Core.Path.{_≡_, sym, _∙_}
 use Prim.Native.Nat.{ℕ, _-_, _<_, max}
 use native.Mathlib.Omega.{arith}
 use borrow.Author.Needs.{needs}
@@ -63,30 +63,43 @@ front-requires c κs =
       inside a .inside,
     )
 
-add-t17 : tie.Need-add-t17 Inv-loop μ-loop
-add-t17 c =
+add-refusing : tie.Need-add-refusing Inv-loop μ-loop
+add-refusing c =
     let b = c .before .before in
     let a = b .before .before in
-    let x = front-short _ _ (a .before .before .before .before .before .pre) _ _ _ _ (going a) _ (a .before .before .next .ensures) _ (a .level .ensures .0) (b .before .if1 .left) _ (b .judge .ensures)
+    let x = front-short _ _ (a .before .before .before .before .before .pre) _ _ _ _ (going a) _ (a .before .before .next .ensures) _ (a .level .ensures .0)
+    (b .before .if1 .left) _ (b .judge .ensures)
     _ (c .front .ensures) in
     omega (arith, x, a .before .before .next .ok)
 
+refusing-requires : tie.Need-refusing-requires Inv-loop μ-loop
+refusing-requires c κs = search needs
+
 returns-2 : tie.Need-returns-2 Inv-loop μ-loop
 returns-2 c =
-    let b = c .before .before in
+    let f = c .before in
+    let b = f .before .before in
     let a = b .before .before in
-    turn-refused _ _ (a .before .before .before .before .before .pre) _ _ _ _ (going a) _ (a .before .before .next .ensures) _ (a .level .ensures .0) (b .before .if1 .left) _ (b .judge .ensures)
-    (c .before .if2 .taken) _ (c .front .ensures) _
+    let w = c .refusing .ensures in
+    rw (w .0, w .1, w .2, w .3)
+    (turn-refused _ _ (a .before .before .before .before .before .pre) _ _ _ _ (going a) _ (a .before .before .next .ensures) _ (a .level .ensures .0) (b .before .if1 .left) _ (b .judge .ensures)
+    (f .before .if2 .taken) _ (f .front .ensures) _)
 
 too-many-requires : tie.Need-too-many-requires Inv-loop μ-loop
 too-many-requires c κs = search needs
 
+refusing-requires-2 : tie.Need-refusing-requires-2 Inv-loop μ-loop
+refusing-requires-2 c κs = search needs
+
 returns-3 : tie.Need-returns-3 Inv-loop μ-loop
 returns-3 c =
-    let b = c .before .before .before in
+    let f = c .before in
+    let b = f .before .before .before in
     let a = b .before .before in
-    turn-outer _ _ (a .before .before .before .before .before .pre) _ _ _ _ (going a) _ (a .before .before .next .ensures) _ (a .level .ensures .0) (b .before .if1 .left) _ (b .judge .ensures)
-    (sym (c .before .too-many .ensures) ∙ c .if3 .taken) _
+    let w = c .refusing2 .ensures in
+    rw (w .0, w .1, w .2, w .3)
+    (turn-outer _ _ (a .before .before .before .before .before .pre) _ _ _ _ (going a) _ (a .before .before .next .ensures) _ (a .level .ensures .0) (b .before .if1 .left) _ (b .judge .ensures)
+    (sym (f .before .too-many .ensures) ∙ f .if3 .taken) _)
 
 advance-requires : tie.Need-advance-requires Inv-loop μ-loop
 advance-requires c κs =
@@ -147,9 +160,11 @@ pass-spec =
     returns
     judge-requires
     front-requires
-    add-t17
+    add-refusing
+    refusing-requires
     returns-2
     too-many-requires
+    refusing-requires-2
     returns-3
     advance-requires
     loop-less

@@ -12,23 +12,18 @@ use Rattle.texts.proofs.check_first.Reads as reads
 use Rattle.texts.proofs.check_first.Lts as lts
 use Rattle.program_check.proofs.check.Reads as check-reads
 
--- src/lib.rt:15:26
 sub-check : tie.Need-sub-check
 sub-check c = search needs
 
--- src/lib.rt:15:26
 part-check-start : tie.Need-part-check-start
 part-check-start c = search needs
 
--- src/lib.rt:15:26
 part-check-end : tie.Need-part-check-end
 part-check-end c = search needs
 
--- src/lib.rt:15:5
 check-requires : tie.Need-check-requires
 check-requires c κs = search needs
 
--- src/lib.rt:11:1
 returns : tie.Need-returns
 returns c =
     let z = c .before .before .before in

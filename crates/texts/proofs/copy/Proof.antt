@@ -1,10 +1,6 @@
 -- `texts::copy` meets its contract. Assumes nothing.
-use mathlib.Core.Path.{_≡_, refl, sym, ap, _∙_}
-use mathlib.Core.List.{List, _++_}
-use Prim.Native.Nat.{_-_, _≤_}
+use Prim.Native.Nat.{_-_}
 use native.Mathlib.Omega.{arith}
-use lib.ListN.{length, take, drop, set, length-append, length-take, length-drop}
-use denote.Ref.{now}
 use Rattle.texts.proofs.Copying.{Copied, copied-first, copied-more, copied-all}
 use Rattle.texts.proofs.copy.Statement.{statement}
 use Rattle.texts.proofs.copy.Tie as tie

@@ -3,7 +3,7 @@ use mathlib.Core.Path.{sym, _∙_}
 use Prim.Native.Nat.{_<_}
 use native.Mathlib.Omega.{arith}
 use borrow.Author.Needs.{needs}
-use Rattle.vocabulary.proofs.Classes.{number-there, digits-behind, digits-whole, bits-zero, bits-minus, bits-inf, bits-count}
+use Rattle.vocabulary.proofs.Constants.{number-there, digits-behind, digits-whole, bits-zero, bits-minus, bits-inf, bits-count}
 use Rattle.vocabulary.proofs.bits.Statement.{statement}
 use Rattle.vocabulary.proofs.bits.Tie as tie
 

@@ -1,0 +1,4 @@
+pub mod Turns
+pub mod Classes
+pub mod Viable
+pub mod Shown

@@ -1,0 +1,3 @@
+pub mod Around
+pub mod Outward
+pub mod Meaning
