@@ -66,8 +66,8 @@ struct cuddystove_verdict cuddystove_check(const uint8_t *program, size_t progra
 // Reads a program as text (docs/MANUAL.md, 4) and writes its table to the start of the slice: number 0, and the place is the table's
 // length; the rest of the slice is as before. The table has then passed the check. Else, in this order, 19, 20, what the check says of
 // the table (1, 2, 3, 7, 9 or 10), or 13 where the slice is shorter than the table; nothing is written. The text may be any bytes, of
-// any length and depth; the time goes with the square of its length at worst, so a host bounds what strangers send. 4,096 bytes are
-// room for every table.
+// any length and depth; the time goes with the square of its length at worst, so a host bounds the length of texts that come from
+// elsewhere. 4,096 bytes are room for every table.
 CUDDYSTOVE_LOOK
 struct cuddystove_verdict cuddystove_read_text(const uint8_t *text, size_t text_length, uint8_t *table, size_t table_length);
 

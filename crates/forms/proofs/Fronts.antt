@@ -9,7 +9,7 @@ use lib.ListN.{length, drop}
 use borrow.Author.Tests.{eq-eqb, ne-eqb, eqb-true, eqb-false}
 use Rattle.notation.specs.Words.{Word, between, sameWord, indexOf, theDef}
 use Rattle.notation.specs.Grammar.{Token, opening, closing, word}
-use Rattle.notation.specs.Text.{Sort, gap, left, right, letter, sort}
+use Rattle.notation.specs.Text.{ByteKind, blankByte, left, right, wordByte, byteKind}
 use Rattle.decide.proofs.Picks.{not-both}
 use Rattle.notation.proofs.Words.{same-word}
 use Rattle.notation.proofs.Lexing.{lex, lexFrom, lexByte, flush}
@@ -82,13 +82,13 @@ filled-flush (b ∷ w) ts h = h
 
 filled-lex : (s : List ℕ) (w : Word) → Filled (lexFrom w s)
 filled-lex [] w = filled-flush w [] tt
-filled-lex (b ∷ s) w = go (sort b) (filled-lex s)
+filled-lex (b ∷ s) w = go (byteKind b) (filled-lex s)
   where
-    go : (o : Sort) → ((w : Word) → Filled (lexFrom w s)) → Filled (lexByte o w b (λ w. lexFrom w s))
-    go gap ih = filled-flush w (lex s) (ih [])
+    go : (o : ByteKind) → ((w : Word) → Filled (lexFrom w s)) → Filled (lexByte o w b (λ w. lexFrom w s))
+    go blankByte ih = filled-flush w (lex s) (ih [])
     go left ih = filled-flush w (opening ∷ lex s) (ih [])
     go right ih = filled-flush w (closing ∷ lex s) (ih [])
-    go letter ih = ih (w ++ b ∷ [])
+    go wordByte ih = ih (w ++ b ∷ [])
 
 -- so that the empty word stands behind them all
 index-empty : (k m : ℕ) (ts : List Token) → Filled ts → indexOf [] (wordsIn k m ts) ≡ length (wordsIn k m ts)

@@ -27,7 +27,7 @@ module _ (s : List ℕ) (a b : ℕ) (hs : b ≤ length s) (h : a < b) where
 -- ---- the bytes of a name behind its first
 pub record Named (s : List ℕ) (a b i : ℕ) : Type 0 where
   pub fits : b ≤ length s
-  pub letter : isLetter (getD s a 0) ≡ true
+  pub wordByte : isLetter (getD s a 0) ≡ true
   pub behind : a < i
   pub within : i ≤ b
   pub few : i - a ≤ 16
@@ -40,7 +40,7 @@ module _ (s : List ℕ) (a b i : ℕ) (g : Named s a b i) where
       let h = g .behind in
       let k = g .within in
       let l : a < b = omega arith in
-      rw (between-cons a b s l (g .fits), g .letter, e)
+      rw (between-cons a b s l (g .fits), g .wordByte, e)
 
   next-byte : i < b → run nameByte (between (a + 1) b s) ≡ i - (a + 1) + cond (nameByte (getD s i 0)) (suc (run nameByte (between (i + 1) b s))) 0
   unfolding run
@@ -52,7 +52,7 @@ module _ (s : List ℕ) (a b i : ℕ) (g : Named s a b i) where
       let p = g .behind in
       record {
         fits = g .fits;
-        letter = g .letter;
+        wordByte = g .wordByte;
         behind = omega arith;
         within = omega arith;
         few = omega arith;
@@ -90,7 +90,7 @@ module _ (s : List ℕ) (a b : ℕ) (hs : b ≤ length s) (h : a < b) where
   name-not e = rw (between-cons a b s h hs, e)
 
   pub name-begun : isLetter (getD s a 0) ≡ true → Named s a b (a + 1)
-  name-begun e = record { fits = hs; letter = e; behind = omega arith; within = omega arith; few = omega arith; same = omega arith }
+  name-begun e = record { fits = hs; wordByte = e; behind = omega arith; within = omega arith; few = omega arith; same = omega arith }
 
 -- ---- digits, while their value is in range
 pub digit-range : (d : ℕ) → isDigit d ≡ true → (48 ≤ d) × (d ≤ 57)

@@ -9,11 +9,11 @@ use lib.Dec.{eqb}
 use lib.ListN.{length, take, drop}
 use Rattle.notation.specs.Words.{Word}
 use Rattle.notation.specs.Grammar.{Token, opening, closing, word}
-use Rattle.notation.specs.Text.{Sort, gap, left, right, letter, sort, Plain, Apart}
+use Rattle.notation.specs.Text.{ByteKind, blankByte, left, right, wordByte, byteKind, Plain, Apart}
 use Rattle.notation.proofs.Lexing.{flush, lexByte, lexFrom, lex, lex-plain, lex-apart}
 use Rattle.notation.proofs.Machine.{Symbol}
 use Rattle.notation.proofs.Place.{next, reachBy, reach}
-use Rattle.lexemes.specs.Lexeme.{kindOf, leading, gaps}
+use Rattle.lexemes.specs.Lexeme.{kindOf, leading, blankSize}
 
 flush-append : (w : Word) (x y : List Token) → flush w (x ++ y) ≡ flush w x ++ y
 flush-append [] x y = refl
@@ -22,22 +22,22 @@ flush-append (b ∷ w) x y = refl
 -- no word goes on behind the cut
 pub apart-append : (t : List ℕ) (w : Word) (u : List ℕ) → Apart u → lexFrom w (t ++ u) ≡ lexFrom w t ++ lex u
 apart-append [] w u a = lex-apart w u a ∙ flush-append w [] (lex u)
-apart-append (b ∷ t) w u a = go (sort b) (λ w. apart-append t w u a)
+apart-append (b ∷ t) w u a = go (byteKind b) (λ w. apart-append t w u a)
   where
-    go : (o : Sort) → ((w : Word) → lexFrom w (t ++ u) ≡ lexFrom w t ++ lex u) → lexByte o w b (λ w. lexFrom w (t ++ u)) ≡ lexByte o w b (λ w. lexFrom w t) ++ lex u
-    go gap ih = ap (flush w) (ih []) ∙ flush-append w (lex t) (lex u)
+    go : (o : ByteKind) → ((w : Word) → lexFrom w (t ++ u) ≡ lexFrom w t ++ lex u) → lexByte o w b (λ w. lexFrom w (t ++ u)) ≡ lexByte o w b (λ w. lexFrom w t) ++ lex u
+    go blankByte ih = ap (flush w) (ih []) ∙ flush-append w (lex t) (lex u)
     go left ih = ap (λ (l : List Token). flush w (opening ∷ l)) (ih []) ∙ flush-append w (opening ∷ lex t) (lex u)
     go right ih = ap (λ (l : List Token). flush w (closing ∷ l)) (ih []) ∙ flush-append w (closing ∷ lex t) (lex u)
-    go letter ih = ih (w ++ b ∷ [])
+    go wordByte ih = ih (w ++ b ∷ [])
 
-one-byte : (b : ℕ) (u : List ℕ) → (sort b ≡ letter → ⊥) → lex (b ∷ u) ≡ lex (b ∷ []) ++ lex u
-one-byte b u n = go (sort b) refl
+one-byte : (b : ℕ) (u : List ℕ) → (byteKind b ≡ wordByte → ⊥) → lex (b ∷ u) ≡ lex (b ∷ []) ++ lex u
+one-byte b u n = go (byteKind b) refl
   where
-    go : (o : Sort) → sort b ≡ o → lexByte o [] b (λ w. lexFrom w u) ≡ lexByte o [] b (λ w. lexFrom w []) ++ lex u
-    go gap e = refl
+    go : (o : ByteKind) → byteKind b ≡ o → lexByte o [] b (λ w. lexFrom w u) ≡ lexByte o [] b (λ w. lexFrom w []) ++ lex u
+    go blankByte e = refl
     go left e = refl
     go right e = refl
-    go letter e = absurd (n e)
+    go wordByte e = absurd (n e)
 
 -- no word reaches up to the cut; r are the bytes before it, the nearest first
 pub back-append : (r u : List ℕ) → Apart r → lex (reverse r ++ u) ≡ lex (reverse r) ++ lex u
@@ -55,64 +55,64 @@ word-alone [] y p h a = absurd (omega arith)
 word-alone (b ∷ x) y p h a = lex-plain (b ∷ x) [] p y ∙ lex-apart (b ∷ x) y a
 
 -- ---- blanks
-pub lex-gaps : (u : List ℕ) → lex u ≡ lex (drop (gaps u) u)
+pub lex-gaps : (u : List ℕ) → lex u ≡ lex (drop (blankSize u) u)
 unfolding leading
 lex-gaps [] = refl
-lex-gaps (b ∷ u) = go (sort b) refl (lex-gaps u)
+lex-gaps (b ∷ u) = go (byteKind b) refl (lex-gaps u)
   where
-    go : (o : Sort) → sort b ≡ o → lex u ≡ lex (drop (gaps u) u) → lexByte o [] b (λ w. lexFrom w u) ≡ lex (drop (cond (eqb (kindOf o) 0) (suc (gaps u)) 0) (b ∷ u))
-    go gap e ih = ih
+    go : (o : ByteKind) → byteKind b ≡ o → lex u ≡ lex (drop (blankSize u) u) → lexByte o [] b (λ w. lexFrom w u) ≡ lex (drop (cond (eqb (kindOf o) 0) (suc (blankSize u)) 0) (b ∷ u))
+    go blankByte e ih = ih
     go left e ih = rw e
     go right e ih = rw e
-    go letter e ih = rw e
+    go wordByte e ih = rw e
 
-pub blank-apart : (u : List ℕ) → Apart (take (gaps u) u)
+pub blank-apart : (u : List ℕ) → Apart (take (blankSize u) u)
 unfolding leading
 blank-apart [] = tt
-blank-apart (b ∷ u) = go (sort b) refl
+blank-apart (b ∷ u) = go (byteKind b) refl
   where
-    go : (o : Sort) → sort b ≡ o → Apart (take (cond (eqb (kindOf o) 0) (suc (gaps u)) 0) (b ∷ u))
-    go gap e = λ q. let z : _≡_ {A = ℕ} 0 1 = cc in omega arith
+    go : (o : ByteKind) → byteKind b ≡ o → Apart (take (cond (eqb (kindOf o) 0) (suc (blankSize u)) 0) (b ∷ u))
+    go blankByte e = λ q. let z : _≡_ {A = ℕ} 0 1 = cc in omega arith
     go left e = tt
     go right e = tt
-    go letter e = tt
+    go wordByte e = tt
 
-pub blank-lex : (u : List ℕ) → lex (take (gaps u) u) ≡ []
+pub blank-lex : (u : List ℕ) → lex (take (blankSize u) u) ≡ []
 unfolding leading
 blank-lex [] = refl
-blank-lex (b ∷ u) = go (sort b) refl (blank-lex u)
+blank-lex (b ∷ u) = go (byteKind b) refl (blank-lex u)
   where
-    go : (o : Sort) → sort b ≡ o → lex (take (gaps u) u) ≡ [] → lex (take (cond (eqb (kindOf o) 0) (suc (gaps u)) 0) (b ∷ u)) ≡ []
-    go gap e ih = rw e ih
+    go : (o : ByteKind) → byteKind b ≡ o → lex (take (blankSize u) u) ≡ [] → lex (take (cond (eqb (kindOf o) 0) (suc (blankSize u)) 0) (b ∷ u)) ≡ []
+    go blankByte e ih = rw e ih
     go left e ih = refl
     go right e ih = refl
-    go letter e ih = refl
+    go wordByte e ih = refl
 
-pub blank-after : (t u : List ℕ) → lex (t ++ take (gaps u) u) ≡ lex t
-blank-after t u = apart-append t [] (take (gaps u) u) (blank-apart u) ∙ rw (blank-lex u) (append-nil (lex t))
+pub blank-after : (t u : List ℕ) → lex (t ++ take (blankSize u) u) ≡ lex t
+blank-after t u = apart-append t [] (take (blankSize u) u) (blank-apart u) ∙ rw (blank-lex u) (append-nil (lex t))
 
 -- the same where r are the bytes before a place, the nearest first
-pub back-gaps : (r : List ℕ) → lex (reverse r) ≡ lex (reverse (drop (gaps r) r))
+pub back-gaps : (r : List ℕ) → lex (reverse r) ≡ lex (reverse (drop (blankSize r) r))
 unfolding leading
 back-gaps [] = refl
-back-gaps (b ∷ r) = go (sort b) refl (back-gaps r)
+back-gaps (b ∷ r) = go (byteKind b) refl (back-gaps r)
   where
-    go : (o : Sort) → sort b ≡ o → lex (reverse r) ≡ lex (reverse (drop (gaps r) r)) → lex (reverse (b ∷ r)) ≡ lex (reverse (drop (cond (eqb (kindOf o) 0) (suc (gaps r)) 0) (b ∷ r)))
-    go gap e ih =
+    go : (o : ByteKind) → byteKind b ≡ o → lex (reverse r) ≡ lex (reverse (drop (blankSize r) r)) → lex (reverse (b ∷ r)) ≡ lex (reverse (drop (cond (eqb (kindOf o) 0) (suc (blankSize r)) 0) (b ∷ r)))
+    go blankByte e ih =
         rw (reverse-cons b r) (apart-append (reverse r) [] (b ∷ []) (λ q. let z : _≡_ {A = ℕ} 0 1 = cc in omega arith) ∙ rw e (append-nil (lex (reverse r)) ∙ ih))
     go left e ih = refl
     go right e ih = refl
-    go letter e ih = refl
+    go wordByte e ih = refl
 
-pub reach-gaps : (st : List Symbol) (u : List ℕ) → reach st [] u ≡ gaps u + reach st [] (drop (gaps u) u)
+pub reach-gaps : (st : List Symbol) (u : List ℕ) → reach st [] u ≡ blankSize u + reach st [] (drop (blankSize u) u)
 unfolding leading
 reach-gaps st [] = refl
-reach-gaps st (b ∷ u) = go (sort b) refl (reach-gaps st u)
+reach-gaps st (b ∷ u) = go (byteKind b) refl (reach-gaps st u)
   where
-    go : (o : Sort) → sort b ≡ o → reach st [] u ≡ gaps u + reach st [] (drop (gaps u) u)
+    go : (o : ByteKind) → byteKind b ≡ o → reach st [] u ≡ blankSize u + reach st [] (drop (blankSize u) u)
         → reachBy (next o st [] b) (λ st w. reach st w u)
-        ≡ cond (eqb (kindOf o) 0) (suc (gaps u)) 0 + reach st [] (drop (cond (eqb (kindOf o) 0) (suc (gaps u)) 0) (b ∷ u))
-    go gap e ih = omega arith
+        ≡ cond (eqb (kindOf o) 0) (suc (blankSize u)) 0 + reach st [] (drop (cond (eqb (kindOf o) 0) (suc (blankSize u)) 0) (b ∷ u))
+    go blankByte e ih = omega arith
     go left e ih = rw e (omega arith)
     go right e ih = rw e (omega arith)
-    go letter e ih = rw e (omega arith)
+    go wordByte e ih = rw e (omega arith)

@@ -8,12 +8,12 @@ use native.Mathlib.Nat.{add-zero}
 use lib.ListN.{length, getD, take, drop, take-append-drop, length-drop, length-reverse}
 use lib.Seq.{drop-length, drop-cons, drop-drop, getD-drop, take-add, length-take-le}
 use Rattle.notation.specs.Words.{between}
-use Rattle.notation.specs.Text.{Sort, left, right, sort, Plain, Apart}
+use Rattle.notation.specs.Text.{ByteKind, left, right, byteKind, Plain, Apart}
 use Rattle.notation.proofs.Lexing.{lex}
 use Rattle.notation.proofs.Machine.{Symbol}
 use Rattle.notation.proofs.Place.{reach}
 use Rattle.lexemes.specs.declared.Lexeme.{Lexeme}
-use Rattle.lexemes.specs.Lexeme.{gaps, kindAt, sizeAt, nextLexeme, lastLexeme, tokenBy, tokenOf, Parted}
+use Rattle.lexemes.specs.Lexeme.{blankSize, kindAt, sizeAt, nextLexeme, lastLexeme, tokenBy, tokenOf, Parted}
 use Rattle.lexemes.proofs.Leading.{forth-within, other, back-drop, back-take}
 use Rattle.lexemes.proofs.Made.{firm, last-back}
 use Rattle.lexemes.proofs.Cut.{cut, lex-gaps, blank-after, back-gaps, reach-gaps}
@@ -57,9 +57,9 @@ pub record WordAt (s : List ℕ) (r : Lexeme) : Type 0 where
   pub whole : drop (r .start) s ≡ between (r .start) (r .end) s ++ drop (r .end) s
   pub filled : between (r .start) (r .end) s ≡ [] → ⊥
 
--- it is one byte of that sort
-pub record BracketAt (s : List ℕ) (r : Lexeme) (o : Sort) : Type 0 where
-  pub sorted : sort (getD s (r .start) 0) ≡ o
+-- it is one byte of that kind
+pub record BracketAt (s : List ℕ) (r : Lexeme) (o : ByteKind) : Type 0 where
+  pub sorted : byteKind (getD s (r .start) 0) ≡ o
   pub first : drop (r .start) s ≡ getD s (r .start) 0 ∷ drop (r .end) s
   pub one : r .end ≡ suc (r .start)
 
@@ -70,7 +70,7 @@ apart-take (suc n) (b ∷ v) a = a
 
 module _ (s : List ℕ) (at : ℕ) (h : at ≤ length s) where
   abbrev first : ℕ
-  first = at + gaps (drop at s)
+  first = at + blankSize (drop at s)
 
   abbrev size : ℕ
   size = sizeAt (drop first s)
@@ -95,7 +95,7 @@ module _ (s : List ℕ) (at : ℕ) (h : at ≤ length s) where
   }
 
   lex-first : lex (drop at s) ≡ lex (drop first s)
-  lex-first = lex-gaps (drop at s) ∙ ap lex (drop-drop (gaps (drop at s)) at s)
+  lex-first = lex-gaps (drop at s) ∙ ap lex (drop-drop (blankSize (drop at s)) at s)
 
   pub next-end : nextLexeme s at .kind ≡ 0 → lex (drop at s) ≡ []
   next-end q = lex-first ∙ ap lex (seen-none here q)
@@ -113,11 +113,11 @@ module _ (s : List ℕ) (at : ℕ) (h : at ≤ length s) where
         filled = λ e. omega (arith, seen-some here (λ z. omega arith), seen-size here, length-take-le size (drop first s) (seen-size here), ap length (sym (slice s first size) ∙ e));
       }
 
-  bracket : (o : Sort) → (sort (getD (drop first s) 0 0) ≡ o) × (size ≡ 1) → BracketAt s (nextLexeme s at) o
+  bracket : (o : ByteKind) → (byteKind (getD (drop first s) 0 0) ≡ o) × (size ≡ 1) → BracketAt s (nextLexeme s at) o
   bracket o b =
       let e : first + size ≡ suc first = omega (arith, b .1) in
       record {
-        sorted = ap (λ (i : ℕ). sort (getD s i 0)) (sym (add-zero first)) ∙ ap sort (sym (getD-drop first s 0 0)) ∙ b .0;
+        sorted = ap (λ (i : ℕ). byteKind (getD s i 0)) (sym (add-zero first)) ∙ ap byteKind (sym (getD-drop first s 0 0)) ∙ b .0;
         first = rw e (drop-cons s first 0 (omega (arith, end-within)));
         one = e;
       }
@@ -131,16 +131,16 @@ module _ (s : List ℕ) (at : ℕ) (h : at ≤ length s) where
   -- blanks are always taken
   pub next-reach : (st : List Symbol) → reach st [] (drop at s) ≡ nextLexeme s at .start - at + reach st [] (drop (nextLexeme s at .start) s)
   next-reach st =
-      let e : first - at ≡ gaps (drop at s) = omega arith in
-      rw (e, ← drop-drop (gaps (drop at s)) at s) (reach-gaps st (drop at s))
+      let e : first - at ≡ blankSize (drop at s) = omega arith in
+      rw (e, ← drop-drop (blankSize (drop at s)) at s) (reach-gaps st (drop at s))
 
   -- ---- the tokens of the bytes before it, and with it
   pub next-before : lex (take (nextLexeme s at .start) s) ≡ lex (take at s)
-  next-before = rw (take-add at (gaps (drop at s)) s) (blank-after (take at s) (drop at s))
+  next-before = rw (take-add at (blankSize (drop at s)) s) (blank-after (take at s) (drop at s))
 
   pub next-parted : Parted s at → Parted s (nextLexeme s at .start)
   unfolding Parted
-  next-parted p = rw (take-add at (gaps (drop at s)) s, ← drop-drop (gaps (drop at s)) at s) (gaps-end (take at s) (drop at s) p)
+  next-parted p = rw (take-add at (blankSize (drop at s)) s, ← drop-drop (blankSize (drop at s)) at s) (gaps-end (take at s) (drop at s) p)
 
   pub next-parted-end : Parted s (nextLexeme s at .end)
   unfolding Parted
@@ -203,7 +203,7 @@ module _ (s : List ℕ) (at : ℕ) (h : at ≤ length s) where
   back = reverse (take at s)
 
   abbrev past : ℕ
-  past = at - gaps back
+  past = at - blankSize back
 
   there : Seen (reverse (take past s)) (kindAt (reverse (take past s))) (sizeAt (reverse (take past s)))
   there = seen (reverse (take past s)) (rw (last-back s at h) at (other 0 back))

@@ -9,26 +9,26 @@ use lib.Dec.{eqb}
 use lib.ListN.{length, getD, take, drop, length-reverse, drop-of-length-le, length-drop}
 use lib.Seq.{drop-cons, take-suc, take-add, take-at, drop-at, length-take-le}
 use borrow.Author.Tests.{eq-eqb, ne-eqb}
-use Rattle.notation.specs.Text.{sort}
+use Rattle.notation.specs.Text.{byteKind}
 use Rattle.lexemes.specs.Lexeme.{kindOf, leading}
 
 module _ (k : ℕ) where
   pub within : (s : List ℕ) → leading k s ≤ length s
   unfolding leading
   within [] = omega arith
-  within (b ∷ s) = go (eqb (kindOf (sort b)) k) (within s)
+  within (b ∷ s) = go (eqb (kindOf (byteKind b)) k) (within s)
     where
       go : (c : Bool) → leading k s ≤ length s → cond c (suc (leading k s)) 0 ≤ suc (length s)
       go true h = omega arith
       go false h = omega arith
 
-  more : (b : ℕ) (s : List ℕ) → kindOf (sort b) ≡ k → leading k (b ∷ s) ≡ suc (leading k s)
+  more : (b : ℕ) (s : List ℕ) → kindOf (byteKind b) ≡ k → leading k (b ∷ s) ≡ suc (leading k s)
   unfolding leading
-  more b s e = rw (eq-eqb (kindOf (sort b)) k e)
+  more b s e = rw (eq-eqb (kindOf (byteKind b)) k e)
 
-  stop : (b : ℕ) (s : List ℕ) → (kindOf (sort b) ≡ k → ⊥) → leading k (b ∷ s) ≡ 0
+  stop : (b : ℕ) (s : List ℕ) → (kindOf (byteKind b) ≡ k → ⊥) → leading k (b ∷ s) ≡ 0
   unfolding leading
-  stop b s n = rw (ne-eqb (kindOf (sort b)) k n)
+  stop b s n = rw (ne-eqb (kindOf (byteKind b)) k n)
 
   none : leading k [] ≡ 0
   unfolding leading
@@ -38,13 +38,13 @@ module _ (k : ℕ) where
   pub other : (s : List ℕ) → leading k (drop (leading k s) s) ≡ 0
   unfolding leading
   other [] = refl
-  other (b ∷ s) = go (eqb (kindOf (sort b)) k) refl (other s)
+  other (b ∷ s) = go (eqb (kindOf (byteKind b)) k) refl (other s)
     where
-      go : (c : Bool) → eqb (kindOf (sort b)) k ≡ c → leading k (drop (leading k s) s) ≡ 0 → leading k (drop (cond c (suc (leading k s)) 0) (b ∷ s)) ≡ 0
+      go : (c : Bool) → eqb (kindOf (byteKind b)) k ≡ c → leading k (drop (leading k s) s) ≡ 0 → leading k (drop (cond c (suc (leading k s)) 0) (b ∷ s)) ≡ 0
       go true e h = h
       go false e h = rw e
 
-  pub begins-other : (b : ℕ) (s : List ℕ) → leading k (b ∷ s) ≡ 0 → kindOf (sort b) ≡ k → ⊥
+  pub begins-other : (b : ℕ) (s : List ℕ) → leading k (b ∷ s) ≡ 0 → kindOf (byteKind b) ≡ k → ⊥
   begins-other b s h e = omega (arith, more b s e)
 
   -- ---- forwards, from the place i
@@ -52,10 +52,10 @@ module _ (k : ℕ) where
     pub forth-end : length s ≤ i → i ≡ i + leading k (drop i s)
     forth-end h = rw (drop-of-length-le s h, none) (omega arith)
 
-    pub forth-stop : i < length s → (kindOf (sort (getD s i 0)) ≡ k → ⊥) → i ≡ i + leading k (drop i s)
+    pub forth-stop : i < length s → (kindOf (byteKind (getD s i 0)) ≡ k → ⊥) → i ≡ i + leading k (drop i s)
     forth-stop h n = rw (drop-cons s i 0 h, stop (getD s i 0) (drop (suc i) s) n) (omega arith)
 
-    pub forth-more : i < length s → kindOf (sort (getD s i 0)) ≡ k → i + leading k (drop i s) ≡ i + 1 + leading k (drop (i + 1) s)
+    pub forth-more : i < length s → kindOf (byteKind (getD s i 0)) ≡ k → i + leading k (drop i s) ≡ i + 1 + leading k (drop (i + 1) s)
     forth-more h e = rw (add-one i, drop-cons s i 0 h, more (getD s i 0) (drop (suc i) s) e) (omega arith)
 
     pub forth-within : i ≤ length s → i + leading k (drop i s) ≤ length s
@@ -101,8 +101,8 @@ module _ (k : ℕ) (s : List ℕ) (i : ℕ) where
   pub back-end : i ≤ 0 → i ≡ i - leading k (reverse (take i s))
   back-end h = omega arith
 
-  pub back-stop : 0 < i → i ≤ length s → (kindOf (sort (getD s (i - 1) 0)) ≡ k → ⊥) → i ≡ i - leading k (reverse (take i s))
+  pub back-stop : 0 < i → i ≤ length s → (kindOf (byteKind (getD s (i - 1) 0)) ≡ k → ⊥) → i ≡ i - leading k (reverse (take i s))
   back-stop p h n = rw (back-cons s i p h, stop k (getD s (i - 1) 0) (reverse (take (i - 1) s)) n) (omega arith)
 
-  pub back-more : 0 < i → i ≤ length s → kindOf (sort (getD s (i - 1) 0)) ≡ k → i - leading k (reverse (take i s)) ≡ i - 1 - leading k (reverse (take (i - 1) s))
+  pub back-more : 0 < i → i ≤ length s → kindOf (byteKind (getD s (i - 1) 0)) ≡ k → i - leading k (reverse (take i s)) ≡ i - 1 - leading k (reverse (take (i - 1) s))
   back-more p h e = rw (back-cons s i p h, more k (getD s (i - 1) 0) (reverse (take (i - 1) s)) e) (omega arith)

@@ -10,49 +10,49 @@ use lib.ListN.{length, getD, take, drop, take-append-drop, length-append, length
 use lib.Seq.{take-append-seam, drop-append-seam, length-take-le}
 use Rattle.notation.specs.Words.{Word}
 use Rattle.notation.specs.Grammar.{Token}
-use Rattle.notation.specs.Text.{Sort, gap, left, right, letter, sort, Plain, Apart}
+use Rattle.notation.specs.Text.{ByteKind, blankByte, left, right, wordByte, byteKind, Plain, Apart}
 use Rattle.notation.proofs.Lexing.{lex, plain-end}
-use Rattle.lexemes.specs.Lexeme.{kindOf, leading, gaps, letters, kindAt, sizeBy, sizeAt, tokenBy}
+use Rattle.lexemes.specs.Lexeme.{kindOf, leading, blankSize, wordSize, kindAt, sizeBy, sizeAt, tokenBy}
 use Rattle.lexemes.proofs.Leading.{within, other, begins-other}
 use Rattle.lexemes.proofs.Cut.{apart-append, back-append, word-alone}
 
 -- the bytes, the token's kind and size
 pub data Seen : List ℕ → ℕ → ℕ → Type 0 where
   none : Seen [] 0 0
-  enter : (b : ℕ) (w : List ℕ) → sort b ≡ left → Seen (b ∷ w) 1 1
-  leave : (b : ℕ) (w : List ℕ) → sort b ≡ right → Seen (b ∷ w) 2 1
+  enter : (b : ℕ) (w : List ℕ) → byteKind b ≡ left → Seen (b ∷ w) 1 1
+  leave : (b : ℕ) (w : List ℕ) → byteKind b ≡ right → Seen (b ∷ w) 2 1
   spelt : (x : Word) (y : List ℕ) → Plain x → 0 < length x → Apart y → Seen (x ++ y) 3 (length x)
 
-plain-letters : (v : List ℕ) → Plain (take (letters v) v)
+plain-letters : (v : List ℕ) → Plain (take (wordSize v) v)
 unfolding leading
 plain-letters [] = tt
-plain-letters (b ∷ v) = go (sort b) refl (plain-letters v)
+plain-letters (b ∷ v) = go (byteKind b) refl (plain-letters v)
   where
-    go : (o : Sort) → sort b ≡ o → Plain (take (letters v) v) → Plain (take (cond (eqb (kindOf o) 3) (suc (letters v)) 0) (b ∷ v))
-    go gap e ih = tt
+    go : (o : ByteKind) → byteKind b ≡ o → Plain (take (wordSize v) v) → Plain (take (cond (eqb (kindOf o) 3) (suc (wordSize v)) 0) (b ∷ v))
+    go blankByte e ih = tt
     go left e ih = tt
     go right e ih = tt
-    go letter e ih = (e, ih)
+    go wordByte e ih = (e, ih)
 
-apart-none : (v : List ℕ) → letters v ≡ 0 → Apart v
+apart-none : (v : List ℕ) → wordSize v ≡ 0 → Apart v
 apart-none [] h = tt
 apart-none (b ∷ v) h = λ e. begins-other 3 b v h (ap kindOf e)
 
-a-word : (v : List ℕ) → 0 < letters v → Seen v 3 (letters v)
+a-word : (v : List ℕ) → 0 < wordSize v → Seen v 3 (wordSize v)
 a-word v h =
-    let l : length (take (letters v) v) ≡ letters v = length-take-le (letters v) v (within 3 v) in
-    rw (take-append-drop (letters v) v, l) at (spelt (take (letters v) v) (drop (letters v) v) (plain-letters v) (omega arith) (apart-none (drop (letters v) v) (other 3 v)))
+    let l : length (take (wordSize v) v) ≡ wordSize v = length-take-le (wordSize v) v (within 3 v) in
+    rw (take-append-drop (wordSize v) v, l) at (spelt (take (wordSize v) v) (drop (wordSize v) v) (plain-letters v) (omega arith) (apart-none (drop (wordSize v) v) (other 3 v)))
 
-pub seen : (v : List ℕ) → gaps v ≡ 0 → Seen v (kindAt v) (sizeAt v)
+pub seen : (v : List ℕ) → blankSize v ≡ 0 → Seen v (kindAt v) (sizeAt v)
 unfolding leading
 seen [] h = none
-seen (b ∷ v) h = go (sort b) refl
+seen (b ∷ v) h = go (byteKind b) refl
   where
-    go : (o : Sort) → sort b ≡ o → Seen (b ∷ v) (kindOf o) (sizeBy o (b ∷ v))
-    go gap e = absurd (begins-other 0 b v h (ap kindOf e))
+    go : (o : ByteKind) → byteKind b ≡ o → Seen (b ∷ v) (kindOf o) (sizeBy o (b ∷ v))
+    go blankByte e = absurd (begins-other 0 b v h (ap kindOf e))
     go left e = enter b v e
     go right e = leave b v e
-    go letter e = a-word (b ∷ v) (rw e (omega arith))
+    go wordByte e = a-word (b ∷ v) (rw e (omega arith))
 
 plain-reverse : (x : Word) → Plain x → Plain (reverse x)
 plain-reverse [] p = tt
@@ -110,13 +110,13 @@ seen-word (enter b w e) q = absurd (omega arith)
 seen-word (leave b w e) q = absurd (omega arith)
 seen-word (spelt x y p h a) q = rw (take-append-seam x y, drop-append-seam x y) (p, a)
 
-pub seen-left : {v : List ℕ} {k n : ℕ} → Seen v k n → k ≡ 1 → (sort (getD v 0 0) ≡ left) × (n ≡ 1)
+pub seen-left : {v : List ℕ} {k n : ℕ} → Seen v k n → k ≡ 1 → (byteKind (getD v 0 0) ≡ left) × (n ≡ 1)
 seen-left none q = absurd (omega arith)
 seen-left (enter b w e) q = (e, refl)
 seen-left (leave b w e) q = absurd (omega arith)
 seen-left (spelt x y p h a) q = absurd (omega arith)
 
-pub seen-right : {v : List ℕ} {k n : ℕ} → Seen v k n → k ≡ 2 → (sort (getD v 0 0) ≡ right) × (n ≡ 1)
+pub seen-right : {v : List ℕ} {k n : ℕ} → Seen v k n → k ≡ 2 → (byteKind (getD v 0 0) ≡ right) × (n ≡ 1)
 seen-right none q = absurd (omega arith)
 seen-right (enter b w e) q = absurd (omega arith)
 seen-right (leave b w e) q = (e, refl)
@@ -136,15 +136,15 @@ seen-start (leave b w e) u = inr (λ q. let z : _≡_ {A = ℕ} 0 1 = cc in omeg
 seen-start (spelt x y p h a) u = inl (rw (drop-append-seam x y) a)
 
 -- nor behind the blanks, where none does before them
-pub gaps-end : (t u : List ℕ) → Apart (reverse t) ⊎ Apart u → Apart (reverse (t ++ take (gaps u) u)) ⊎ Apart (drop (gaps u) u)
+pub gaps-end : (t u : List ℕ) → Apart (reverse t) ⊎ Apart u → Apart (reverse (t ++ take (blankSize u) u)) ⊎ Apart (drop (blankSize u) u)
 unfolding leading
 gaps-end t [] p = rw (append-nil t) p
-gaps-end t (b ∷ u) p = go (sort b) refl (gaps-end (t ++ b ∷ []) u)
+gaps-end t (b ∷ u) p = go (byteKind b) refl (gaps-end (t ++ b ∷ []) u)
   where
-    go : (o : Sort) → sort b ≡ o → (Apart (reverse (t ++ b ∷ [])) ⊎ Apart u → Apart (reverse ((t ++ b ∷ []) ++ take (gaps u) u)) ⊎ Apart (drop (gaps u) u))
-        → Apart (reverse (t ++ take (cond (eqb (kindOf o) 0) (suc (gaps u)) 0) (b ∷ u))) ⊎ Apart (drop (cond (eqb (kindOf o) 0) (suc (gaps u)) 0) (b ∷ u))
-    go gap e ih =
-        rw (append-assoc t (b ∷ []) (take (gaps u) u)) at (ih (inl (rw (reverse-append t (b ∷ [])) (λ q. let z : _≡_ {A = ℕ} 0 1 = cc in omega arith))))
+    go : (o : ByteKind) → byteKind b ≡ o → (Apart (reverse (t ++ b ∷ [])) ⊎ Apart u → Apart (reverse ((t ++ b ∷ []) ++ take (blankSize u) u)) ⊎ Apart (drop (blankSize u) u))
+        → Apart (reverse (t ++ take (cond (eqb (kindOf o) 0) (suc (blankSize u)) 0) (b ∷ u))) ⊎ Apart (drop (cond (eqb (kindOf o) 0) (suc (blankSize u)) 0) (b ∷ u))
+    go blankByte e ih =
+        rw (append-assoc t (b ∷ []) (take (blankSize u) u)) at (ih (inl (rw (reverse-append t (b ∷ [])) (λ q. let z : _≡_ {A = ℕ} 0 1 = cc in omega arith))))
     go left e ih = rw (append-nil t) p
     go right e ih = rw (append-nil t) p
-    go letter e ih = rw (append-nil t) p
+    go wordByte e ih = rw (append-nil t) p

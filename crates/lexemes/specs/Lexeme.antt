@@ -7,47 +7,47 @@ use lib.Dec.{eqb}
 use lib.ListN.{take, drop}
 use Rattle.notation.specs.Words.{Word, between}
 use Rattle.notation.specs.Grammar.{Token, opening, closing, word}
-use Rattle.notation.specs.Text.{Sort, gap, left, right, letter, sort, Apart}
+use Rattle.notation.specs.Text.{ByteKind, blankByte, left, right, wordByte, byteKind, Apart}
 use Rattle.lexemes.specs.declared.Lexeme.{Lexeme}
 
 -- 0 a blank, 1 an opening bracket, 2 a closing one, 3 part of a word
-abbrev pub kindOf : Sort → ℕ
-kindOf gap = 0
+abbrev pub kindOf : ByteKind → ℕ
+kindOf blankByte = 0
 kindOf left = 1
 kindOf right = 2
-kindOf letter = 3
+kindOf wordByte = 3
 
 -- how many bytes of that kind lead
 unfoldable pub leading : ℕ → List ℕ → ℕ
 leading k [] = 0
-leading k (b ∷ s) = cond (eqb (kindOf (sort b)) k) (suc (leading k s)) 0
+leading k (b ∷ s) = cond (eqb (kindOf (byteKind b)) k) (suc (leading k s)) 0
 
-abbrev pub gaps : List ℕ → ℕ
-gaps s = leading 0 s
+abbrev pub blankSize : List ℕ → ℕ
+blankSize s = leading 0 s
 
-abbrev pub letters : List ℕ → ℕ
-letters s = leading 3 s
+abbrev pub wordSize : List ℕ → ℕ
+wordSize s = leading 3 s
 
 -- 0 the end, 1 an opening bracket, 2 a closing one, 3 a word; how many bytes it has
 abbrev pub kindAt : List ℕ → ℕ
 kindAt [] = 0
-kindAt (b ∷ s) = kindOf (sort b)
+kindAt (b ∷ s) = kindOf (byteKind b)
 
-abbrev pub sizeBy : Sort → List ℕ → ℕ
-sizeBy gap s = 0
+abbrev pub sizeBy : ByteKind → List ℕ → ℕ
+sizeBy blankByte s = 0
 sizeBy left s = 1
 sizeBy right s = 1
-sizeBy letter s = letters s
+sizeBy wordByte s = wordSize s
 
 abbrev pub sizeAt : List ℕ → ℕ
 sizeAt [] = 0
-sizeAt (b ∷ s) = sizeBy (sort b) (b ∷ s)
+sizeAt (b ∷ s) = sizeBy (byteKind b) (b ∷ s)
 
 abbrev pub lexemeFrom : ℕ → List ℕ → Lexeme
 lexemeFrom start s = record { kind = kindAt s; start = start; end = start + sizeAt s }
 
 abbrev pub nextLexeme : List ℕ → ℕ → Lexeme
-nextLexeme s at = lexemeFrom (at + gaps (drop at s)) (drop (at + gaps (drop at s)) s)
+nextLexeme s at = lexemeFrom (at + blankSize (drop at s)) (drop (at + blankSize (drop at s)) s)
 
 -- the same of the bytes before a place, the nearest first
 abbrev pub lexemeTo : ℕ → List ℕ → Lexeme
@@ -56,7 +56,7 @@ lexemeTo end back = record { kind = kindAt back; start = end - sizeAt back; end 
 abbrev pub lastLexeme : List ℕ → ℕ → Lexeme
 lastLexeme s at =
     let back : List ℕ = reverse (take at s) in
-    lexemeTo (at - gaps back) (drop (gaps back) back)
+    lexemeTo (at - blankSize back) (drop (blankSize back) back)
 
 -- the token of those numbers
 abbrev pub tokenBy : ℕ → Word → Token

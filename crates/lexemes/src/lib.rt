@@ -3,7 +3,7 @@ ghost use mathlib.Core.Path.{_≡_};
 ghost use mathlib.Core.List.{reverse};
 ghost use Prim.Native.Nat.{_+_, _-_, _≤_, _<_};
 ghost use lib.ListN.{take, drop};
-ghost use Rattle.notation.specs.Text.{sort};
+ghost use Rattle.notation.specs.Text.{byteKind};
 ghost use Rattle.lexemes.specs.Lexeme.{kindOf, leading, nextLexeme, lastLexeme, depthBy};
 
 // Kind 0: there is none. 1: an opening bracket, 2: a closing one, 3: a word. Its bytes are start..end.
@@ -15,7 +15,7 @@ pub struct Lexeme {
 
 // 0 a blank, 1 and 2 the brackets, 3 part of a word.
 fn kind_of(b: u8) -> u8
-    ensures { λ r. ⌜ r ≡ kindOf (sort b) ⌝ }
+    ensures { λ r. ⌜ r ≡ kindOf (byteKind b) ⌝ }
 {
     match b {
         32 => 0,

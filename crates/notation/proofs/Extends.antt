@@ -6,7 +6,7 @@ use mathlib.Core.Logic.{_⊎_, inl, inr}
 use Prim.Native.Nat.{ℕ}
 use Rattle.notation.specs.Words.{Word, sameWord, every, isLetter, isDigit, nameByte, isName, reservedWords, reserved, operators, operator, isCount, isNegative, isNumber, ownName}
 use Rattle.notation.specs.Words.{atom, binder, function, Role, fixed, calls, definition, noForm, operation, call, nothing, headWords, roleOf, theDef, theInf, lookup, headOf, role}
-use Rattle.notation.specs.Text.{letter, sort, Plain}
+use Rattle.notation.specs.Text.{wordByte, byteKind, Plain}
 use Rattle.decide.proofs.Picks.{not-both, both}
 use Rattle.notation.proofs.Words.{same-word, lookup-word}
 use Rattle.notation.proofs.Viable.{Class, atoms, binders, functions, heads, openers, isHead, isOpener, allowed, empty, beginsAtom, beginsBinder, beginsFunction, begins, either, Five, is₁}
@@ -21,7 +21,7 @@ pub record Extends (c : Class) (w : Word) : Type 0 where
 as-is : (c : Class) (w : Word) → empty w ≡ false → allowed c w ≡ true → Extends c w
 as-is c w e h = record { more = []; plain = tt; filled = rw (append-nil w) e; good = rw (append-nil w) h }
 
-by-one : (c : Class) (w : Word) (b : ℕ) → sort b ≡ letter → allowed c (w ++ b ∷ []) ≡ true → Extends c w
+by-one : (c : Class) (w : Word) (b : ℕ) → byteKind b ≡ wordByte → allowed c (w ++ b ∷ []) ≡ true → Extends c w
 by-one c w b p h = record { more = b ∷ []; plain = (p, tt); filled = go w; good = h }
   where
     go : (w : Word) → empty (w ++ b ∷ []) ≡ false
@@ -29,7 +29,7 @@ by-one c w b p h = record { more = b ∷ []; plain = (p, tt); filled = go w; goo
     go (a ∷ w) = refl
 
 by-a : (c : Class) (w : Word) → allowed c (w ++ 97 ∷ []) ≡ true → Extends c w
-unfolding sort
+unfolding byteKind
 by-a c w h = by-one c w 97 refl h
 
 -- the letter a alone is a word of each class, and each reserved word with an a behind it is
@@ -144,8 +144,8 @@ extend-function c w h e = go (which (empty w) (isName w) (operator w) (sameWord 
     go (is₁ q) = extend-empty c w q
     go (is₂ q) = extend-name c w q
     go (is₃ q) = extend-operator c w h q
-    go (is₄ q) = by-one c w 61 (unfold sort in refl) (rw (same-word w (61 ∷ []) q) (good (61 ∷ 61 ∷ []) equals))
-    go (is₅ q) = by-one c w 61 (unfold sort in refl) (rw (same-word w (33 ∷ []) q) (good (33 ∷ 61 ∷ []) differs))
+    go (is₄ q) = by-one c w 61 (unfold byteKind in refl) (rw (same-word w (61 ∷ []) q) (good (61 ∷ 61 ∷ []) equals))
+    go (is₅ q) = by-one c w 61 (unfold byteKind in refl) (rw (same-word w (33 ∷ []) q) (good (33 ∷ 61 ∷ []) differs))
 
 count-filled : (w : Word) → isCount w ≡ true → empty w ≡ false
 unfolding isCount
@@ -170,7 +170,7 @@ extend-atom w e = go (which (empty w) (isName w) (isCount w) (isNegative w) (sam
     go (is₂ q) = extend-name atoms w q
     go (is₃ q) = as-is atoms w (count-filled w q) (rw (q, or-true (sameWord w theInf)))
     go (is₄ q) = as-is atoms w (negative-filled w q) (rw (q, or-true (isCount w), or-true (sameWord w theInf)))
-    go (is₅ q) = by-one atoms w 48 (unfold sort in refl) (rw (same-word w (45 ∷ []) q) minus-zero)
+    go (is₅ q) = by-one atoms w 48 (unfold byteKind in refl) (rw (same-word w (45 ∷ []) q) minus-zero)
 
 extend-binder : (w : Word) → beginsBinder w ≡ true → Extends binders w
 unfolding beginsBinder

@@ -8,7 +8,7 @@ use Prim.Native.Nat.{ℕ, zero, suc}
 use Rattle.decide.proofs.Options.{none-some}
 use Rattle.notation.specs.Words.{Word, Piece, anExpression, aBinder, aFunction, Role, fixed, calls, definition, noForm, atom, binder, function, role}
 use Rattle.notation.specs.Grammar.{Token, opening, closing, word, Program, programTokens, FineProgram}
-use Rattle.notation.specs.Text.{sort, Plain}
+use Rattle.notation.specs.Text.{byteKind, Plain}
 use Rattle.decide.proofs.Picks.{not-both}
 use Rattle.notation.proofs.Machine.{Symbol, item, head, many, shut, program, formHead, list, params, push, headed, begun, step, onward, run, start, programs-exactly}
 use Rattle.notation.proofs.Lexing.{flush, lexFrom, lex, lex-plain}
@@ -73,7 +73,7 @@ pub record Finish (st : List Symbol) : Type 0 where
 
 -- a word and a blank, then what finishes the stack behind it
 pub lex-word : (w x : Word) → Plain x → empty (w ++ x) ≡ false → (s : List ℕ) → lexFrom w (x ++ 32 ∷ s) ≡ word (w ++ x) ∷ lex s
-unfolding sort
+unfolding byteKind
 lex-word w x p f s = lex-plain x w p (32 ∷ s) ∙ go (w ++ x) f
   where
     go : (v : Word) → empty v ≡ false → flush v (lex s) ≡ word v ∷ lex s
@@ -87,11 +87,11 @@ by-class : (c : Class) (st st′ : List Symbol) → ((w : Word) → allowed c w 
 by-class c st st′ h g = let x = begins-extends c [] (begins-empty c) in by-word st st′ (x .more) (x .plain) (x .filled) (h (x .more) (x .good)) g
 
 by-closing : (st st′ : List Symbol) → step st closing ≡ some st′ → Finish st′ → Finish st
-unfolding sort
+unfolding byteKind
 by-closing st st′ h f = record { bytes = 41 ∷ f .bytes; ends = rw h (f .ends) }
 
 by-opening : (st st′ : List Symbol) → step st opening ≡ some st′ → Finish st′ → Finish st
-unfolding sort
+unfolding byteKind
 by-opening st st′ h f = record { bytes = 40 ∷ f .bytes; ends = rw h (f .ends) }
 
 on-item : (k : Piece) (st : List Symbol) → Finish st → Finish (item k ∷ st)

@@ -11,7 +11,7 @@ use lib.ListN.{length, take}
 use Rattle.decide.proofs.Options.{none-some}
 use Rattle.notation.specs.Words.{Word}
 use Rattle.notation.specs.Grammar.{Token, opening, closing, word, programTokens}
-use Rattle.notation.specs.Text.{Sort, gap, left, right, letter, sort, Text, Begins, Longest}
+use Rattle.notation.specs.Text.{ByteKind, blankByte, left, right, wordByte, byteKind, Text, Begins, Longest}
 use Rattle.decide.proofs.Picks.{not-both}
 use Rattle.notation.proofs.Machine.{Symbol, step, onward, run, start, programs-exactly}
 use Rattle.notation.proofs.Lexing.{flush, lexByte, lexFrom, lex, spaced-exactly}
@@ -47,11 +47,11 @@ abbrev pub bare : Option (List Symbol) → Option (List Symbol × Word)
 bare none = none
 bare (some st) = some (st, [])
 
-abbrev pub next : Sort → List Symbol → Word → ℕ → Option (List Symbol × Word)
-next gap st w b = bare (afterWord st w)
+abbrev pub next : ByteKind → List Symbol → Word → ℕ → Option (List Symbol × Word)
+next blankByte st w b = bare (afterWord st w)
 next left st w b = bare (onward (afterWord st w) (λ st. step st opening))
 next right st w b = bare (onward (afterWord st w) (λ st. step st closing))
-next letter st w b = cond (beginsIn st (w ++ b ∷ [])) (some (st, w ++ b ∷ [])) none
+next wordByte st w b = cond (beginsIn st (w ++ b ∷ [])) (some (st, w ++ b ∷ [])) none
 
 -- how many bytes are taken before the first refusal
 abbrev pub reachBy : Option (List Symbol × Word) → (List Symbol → Word → ℕ) → ℕ
@@ -60,7 +60,7 @@ reachBy (some p) k = suc (k (p .0) (p .1))
 
 abbrev pub reach : List Symbol → Word → List ℕ → ℕ
 reach st w [] = 0
-reach st w (b ∷ s) = reachBy (next (sort b) st w b) (λ st w. reach st w s)
+reach st w (b ∷ s) = reachBy (next (byteKind b) st w b) (λ st w. reach st w s)
 
 unfoldable pub place : List ℕ → ℕ
 place s = reach start [] s
@@ -72,11 +72,11 @@ aliveBy (some p) k = k (p .0) (p .1)
 
 abbrev pub Alive : List Symbol → Word → List ℕ → Type 0
 Alive st w [] = Unit {0}
-Alive st w (b ∷ s) = aliveBy (next (sort b) st w b) (λ st w. Alive st w s)
+Alive st w (b ∷ s) = aliveBy (next (byteKind b) st w b) (λ st w. Alive st w s)
 
 reach-within : (s : List ℕ) (st : List Symbol) (w : Word) → reach st w s ≤ length s
 reach-within [] st w = omega arith
-reach-within (b ∷ s) st w = go (next (sort b) st w b) (reach-within s)
+reach-within (b ∷ s) st w = go (next (byteKind b) st w b) (reach-within s)
   where
     go : (o : Option (List Symbol × Word)) → ((st : List Symbol) (w : Word) → reach st w s ≤ length s) → reachBy o (λ st w. reach st w s) ≤ suc (length s)
     go none ih = omega arith
@@ -84,9 +84,9 @@ reach-within (b ∷ s) st w = go (next (sort b) st w b) (reach-within s)
 
 reach-alive : (s : List ℕ) (st : List Symbol) (w : Word) → Alive st w (take (reach st w s) s)
 reach-alive [] st w = tt
-reach-alive (b ∷ s) st w = go (next (sort b) st w b) refl (reach-alive s)
+reach-alive (b ∷ s) st w = go (next (byteKind b) st w b) refl (reach-alive s)
   where
-    go : (o : Option (List Symbol × Word)) → next (sort b) st w b ≡ o → ((st : List Symbol) (w : Word) → Alive st w (take (reach st w s) s))
+    go : (o : Option (List Symbol × Word)) → next (byteKind b) st w b ≡ o → ((st : List Symbol) (w : Word) → Alive st w (take (reach st w s) s))
         → Alive st w (take (reachBy o (λ st w. reach st w s)) (b ∷ s))
     go none e ih = tt
     go (some p) e ih = rw e (ih (p .0) (p .1))
@@ -94,7 +94,7 @@ reach-alive (b ∷ s) st w = go (next (sort b) st w b) refl (reach-alive s)
 reach-longest : (s : List ℕ) (st : List Symbol) (w : Word) (j : ℕ) → j ≤ length s → Alive st w (take j s) → j ≤ reach st w s
 reach-longest s st w zero h a = omega arith
 reach-longest [] st w (suc j) h a = omega arith
-reach-longest (b ∷ s) st w (suc j) h a = go (next (sort b) st w b) a (λ st w. reach-longest s st w j (le-of-suc-le-suc h))
+reach-longest (b ∷ s) st w (suc j) h a = go (next (byteKind b) st w b) a (λ st w. reach-longest s st w j (le-of-suc-le-suc h))
   where
     go : (o : Option (List Symbol × Word)) → aliveBy o (λ st w. Alive st w (take j s)) → ((st : List Symbol) (w : Word) → Alive st w (take j s) → j ≤ reach st w s)
         → suc j ≤ reachBy o (λ st w. reach st w s)
@@ -109,14 +109,14 @@ run-flush (b ∷ w) ts st = refl
 -- the word in hand goes on to a word
 goes-on : (s : List ℕ) (b : ℕ) (w : Word) → (x : Word) × (ts : List Token) × (lexFrom (b ∷ w) s ≡ word ((b ∷ w) ++ x) ∷ ts)
 goes-on [] b w = ([], [], rw (append-nil w))
-goes-on (c ∷ s) b w = go (sort c) (goes-on s b)
+goes-on (c ∷ s) b w = go (byteKind c) (goes-on s b)
   where
-    go : (o : Sort) → ((w : Word) → (x : Word) × (ts : List Token) × (lexFrom (b ∷ w) s ≡ word ((b ∷ w) ++ x) ∷ ts))
+    go : (o : ByteKind) → ((w : Word) → (x : Word) × (ts : List Token) × (lexFrom (b ∷ w) s ≡ word ((b ∷ w) ++ x) ∷ ts))
         → (x : Word) × (ts : List Token) × (lexByte o (b ∷ w) c (λ w. lexFrom w s) ≡ word ((b ∷ w) ++ x) ∷ ts)
-    go gap ih = ([], lex s, rw (append-nil w))
+    go blankByte ih = ([], lex s, rw (append-nil w))
     go left ih = ([], opening ∷ lex s, rw (append-nil w))
     go right ih = ([], closing ∷ lex s, rw (append-nil w))
-    go letter ih = let g = ih (w ++ c ∷ []) in (c ∷ g .0, g .1, g .2 ∙ ap (λ (v : Word). word (b ∷ v) ∷ g .1) (append-assoc w (c ∷ []) (g .0)))
+    go wordByte ih = let g = ih (w ++ c ∷ []) in (c ∷ g .0, g .1, g .2 ∙ ap (λ (v : Word). word (b ∷ v) ∷ g .1) (append-assoc w (c ∷ []) (g .0)))
 
 in-hand : (st : List Symbol) (b : ℕ) (w : Word) (s : List ℕ) → run st (lexFrom (b ∷ w) s) ≡ some [] → beginsIn st (b ∷ w) ≡ true
 in-hand st b w s q = let g = goes-on s b w in go (g .0) (g .1) (step st (word ((b ∷ w) ++ g .0))) refl (sym (ap (λ (l : List Token). run st l) (g .2)) ∙ q)
@@ -131,7 +131,7 @@ in-hand-end st (a ∷ w) b s q = in-hand st a (w ++ b ∷ []) s q
 
 begins-alive : (t u : List ℕ) (st : List Symbol) (w : Word) → run st (lexFrom w (t ++ u)) ≡ some [] → Alive st w t
 begins-alive [] u st w q = tt
-begins-alive (b ∷ t) u st w q = go (sort b) q (begins-alive t u)
+begins-alive (b ∷ t) u st w q = go (byteKind b) q (begins-alive t u)
   where
     on : (o : Option (List Symbol)) → onward o (λ st. run st (lex (t ++ u))) ≡ some [] → ((st : List Symbol) (w : Word) → run st (lexFrom w (t ++ u)) ≡ some [] → Alive st w t)
         → aliveBy (bare o) (λ st w. Alive st w t)
@@ -143,12 +143,12 @@ begins-alive (b ∷ t) u st w q = go (sort b) q (begins-alive t u)
     one none k q = q
     one (some st) k q = q
 
-    go : (o : Sort) → run st (lexByte o w b (λ w. lexFrom w (t ++ u))) ≡ some [] → ((st : List Symbol) (w : Word) → run st (lexFrom w (t ++ u)) ≡ some [] → Alive st w t)
+    go : (o : ByteKind) → run st (lexByte o w b (λ w. lexFrom w (t ++ u))) ≡ some [] → ((st : List Symbol) (w : Word) → run st (lexFrom w (t ++ u)) ≡ some [] → Alive st w t)
         → aliveBy (next o st w b) (λ st w. Alive st w t)
-    go gap q ih = on (afterWord st w) (sym (run-flush w (lex (t ++ u)) st) ∙ q) ih
+    go blankByte q ih = on (afterWord st w) (sym (run-flush w (lex (t ++ u)) st) ∙ q) ih
     go left q ih = on (onward (afterWord st w) (λ st. step st opening)) (one (afterWord st w) opening (sym (run-flush w (opening ∷ lex (t ++ u)) st) ∙ q)) ih
     go right q ih = on (onward (afterWord st w) (λ st. step st closing)) (one (afterWord st w) closing (sym (run-flush w (closing ∷ lex (t ++ u)) st) ∙ q)) ih
-    go letter q ih = rw (in-hand-end st w b (t ++ u) q) (ih st (w ++ b ∷ []) q)
+    go wordByte q ih = rw (in-hand-end st w b (t ++ u) q) (ih st (w ++ b ∷ []) q)
 
 -- the word in hand, if there is one, begins a word that the stack takes
 abbrev Held : List Symbol → Word → Type 0
@@ -173,7 +173,7 @@ complete st (b ∷ w) h = go (wordsOf st) refl h
 
 alive-begins : (t : List ℕ) (st : List Symbol) (w : Word) → Held st w → Alive st w t → (u : List ℕ) × (run st (lexFrom w (t ++ u)) ≡ some [])
 alive-begins [] st w h a = complete st w h
-alive-begins (b ∷ t) st w h a = go (sort b) a (alive-begins t)
+alive-begins (b ∷ t) st w h a = go (byteKind b) a (alive-begins t)
   where
     IH : Type 0
     IH = (st : List Symbol) (w : Word) → Held st w → Alive st w t → (u : List ℕ) × (run st (lexFrom w (t ++ u)) ≡ some [])
@@ -187,20 +187,20 @@ alive-begins (b ∷ t) st w h a = go (sort b) a (alive-begins t)
     one none k u q = q
     one (some st) k u q = q
 
-    letters : (c : Bool) → beginsIn st (w ++ b ∷ []) ≡ c → aliveBy (cond c (some (st, w ++ b ∷ [])) none) (λ st w. Alive st w t) → IH
+    wordSize : (c : Bool) → beginsIn st (w ++ b ∷ []) ≡ c → aliveBy (cond c (some (st, w ++ b ∷ [])) none) (λ st w. Alive st w t) → IH
         → (u : List ℕ) × (run st (lexFrom (w ++ b ∷ []) (t ++ u)) ≡ some [])
-    letters true e a ih = ih st (w ++ b ∷ []) (held-end st w b e) a
-    letters false e a ih = absurd a
+    wordSize true e a ih = ih st (w ++ b ∷ []) (held-end st w b e) a
+    wordSize false e a ih = absurd a
 
-    go : (o : Sort) → aliveBy (next o st w b) (λ st w. Alive st w t) → IH → (u : List ℕ) × (run st (lexByte o w b (λ w. lexFrom w (t ++ u))) ≡ some [])
-    go gap a ih = let g = on (afterWord st w) a ih in (g .0, run-flush w (lex (t ++ g .0)) st ∙ g .1)
+    go : (o : ByteKind) → aliveBy (next o st w b) (λ st w. Alive st w t) → IH → (u : List ℕ) × (run st (lexByte o w b (λ w. lexFrom w (t ++ u))) ≡ some [])
+    go blankByte a ih = let g = on (afterWord st w) a ih in (g .0, run-flush w (lex (t ++ g .0)) st ∙ g .1)
     go left a ih =
         let g = on (onward (afterWord st w) (λ st. step st opening)) a ih in
         (g .0, run-flush w (opening ∷ lex (t ++ g .0)) st ∙ one (afterWord st w) opening (g .0) (g .1))
     go right a ih =
         let g = on (onward (afterWord st w) (λ st. step st closing)) a ih in
         (g .0, run-flush w (closing ∷ lex (t ++ g .0)) st ∙ one (afterWord st w) closing (g .0) (g .1))
-    go letter a ih = letters (beginsIn st (w ++ b ∷ [])) refl a ih
+    go wordByte a ih = wordSize (beginsIn st (w ++ b ∷ [])) refl a ih
 
 pub begins-exactly : (t : List ℕ) → Begins t ↔ Alive start [] t
 begins-exactly t = (λ h. begins-alive t (h .rest) start [] (texts-exactly (t ++ h .rest) .0 (h .text)), back)

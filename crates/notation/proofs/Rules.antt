@@ -8,7 +8,7 @@ use native.Mathlib.Omega.{arith}
 use lib.ListN.{length}
 use Rattle.notation.specs.Words.{Word}
 use Rattle.notation.specs.Grammar.{opening, closing, word}
-use Rattle.notation.specs.Text.{Sort, gap, left, right, letter, sort, Plain, Apart, Longest}
+use Rattle.notation.specs.Text.{ByteKind, blankByte, left, right, wordByte, byteKind, Plain, Apart, Longest}
 use Rattle.notation.proofs.Machine.{Symbol, step, start}
 use Rattle.notation.proofs.Viable.{front-begins}
 use Rattle.notation.proofs.Finish.{step-takes}
@@ -31,23 +31,23 @@ viable-within st w (b ∷ x) = go (beginsIn st (w ++ b ∷ [])) (viable-within s
 -- behind the word in hand no word goes on
 ended : (st : List Symbol) (w : Word) (s : List ℕ) → Apart s → afterWord st w ≡ none → reach st w s ≡ 0
 ended st w [] a e = refl
-ended st w (b ∷ s) a e = go (sort b) refl
+ended st w (b ∷ s) a e = go (byteKind b) refl
   where
-    go : (o : Sort) → sort b ≡ o → reachBy (next o st w b) (λ st w. reach st w s) ≡ 0
-    go gap q = rw e
+    go : (o : ByteKind) → byteKind b ≡ o → reachBy (next o st w b) (λ st w. reach st w s) ≡ 0
+    go blankByte q = rw e
     go left q = rw e
     go right q = rw e
-    go letter q = absurd (a q)
+    go wordByte q = absurd (a q)
 
 went : (st st′ : List Symbol) (w : Word) (s : List ℕ) → Apart s → afterWord st w ≡ some st′ → reach st w s ≡ reach st′ [] s
 went st st′ w [] a e = refl
-went st st′ w (b ∷ s) a e = go (sort b) refl
+went st st′ w (b ∷ s) a e = go (byteKind b) refl
   where
-    go : (o : Sort) → sort b ≡ o → reachBy (next o st w b) (λ st w. reach st w s) ≡ reachBy (next o st′ [] b) (λ st w. reach st w s)
-    go gap q = rw e
+    go : (o : ByteKind) → byteKind b ≡ o → reachBy (next o st w b) (λ st w. reach st w s) ≡ reachBy (next o st′ [] b) (λ st w. reach st w s)
+    go blankByte q = rw e
     go left q = rw e
     go right q = rw e
-    go letter q = absurd (a q)
+    go wordByte q = absurd (a q)
 
 pub refused-from : (x w : Word) (st : List Symbol) (s : List ℕ) → Plain x → Apart s → afterWord st (w ++ x) ≡ none → reach st w (x ++ s) ≡ viable st w x
 refused-from [] w st s p a e = ended st w s a (rw append-nil at e)
@@ -82,15 +82,15 @@ abbrev stepped : Option (List Symbol) → (List Symbol → ℕ) → ℕ
 stepped none k = 0
 stepped (some st) k = suc (k st)
 
-abbrev tallyByte : Sort → List Symbol → Word → ℕ → (List Symbol → Word → ℕ) → ℕ
-tallyByte gap st w b k = counted (afterWord st w) st w (λ st. suc (k st []))
+abbrev tallyByte : ByteKind → List Symbol → Word → ℕ → (List Symbol → Word → ℕ) → ℕ
+tallyByte blankByte st w b k = counted (afterWord st w) st w (λ st. suc (k st []))
 tallyByte left st w b k = counted (afterWord st w) st w (λ st. stepped (step st opening) (λ st. k st []))
 tallyByte right st w b k = counted (afterWord st w) st w (λ st. stepped (step st closing) (λ st. k st []))
-tallyByte letter st w b k = k st (w ++ b ∷ [])
+tallyByte wordByte st w b k = k st (w ++ b ∷ [])
 
 abbrev pub tally : List Symbol → Word → List ℕ → ℕ
 tally st w [] = counted (afterWord st w) st w (λ st. 0)
-tally st w (b ∷ s) = tallyByte (sort b) st w b (λ st w. tally st w s)
+tally st w (b ∷ s) = tallyByte (byteKind b) st w b (λ st w. tally st w s)
 
 unfoldable pub tokenPlace : List ℕ → ℕ
 tokenPlace s = tally start [] s
@@ -105,7 +105,7 @@ counts st w s k p a h = go (afterWord st w) refl
 
 tally-reach : (s : List ℕ) (st : List Symbol) (w : Word) → Plain w → tally st w s ≡ reach st [] (w ++ s)
 tally-reach [] st w p = counts st w [] (λ st. 0) p tt (λ st. refl)
-tally-reach (b ∷ s) st w p = go (sort b) refl (tally-reach s)
+tally-reach (b ∷ s) st w p = go (byteKind b) refl (tally-reach s)
   where
     IH : Type 0
     IH = (st : List Symbol) (w : Word) → Plain w → tally st w s ≡ reach st [] (w ++ s)
@@ -114,11 +114,11 @@ tally-reach (b ∷ s) st w p = go (sort b) refl (tally-reach s)
     one ih none = refl
     one ih (some st) = ap suc (ih st [] tt)
 
-    go : (o : Sort) → sort b ≡ o → IH → tallyByte o st w b (λ st w. tally st w s) ≡ reach st [] (w ++ b ∷ s)
-    go gap e ih = counts st w (b ∷ s) (λ st. suc (tally st [] s)) p (λ q. let z : _≡_ {A = ℕ} 0 1 = cc in omega arith) (λ st. rw e (ap suc (ih st [] tt)))
+    go : (o : ByteKind) → byteKind b ≡ o → IH → tallyByte o st w b (λ st w. tally st w s) ≡ reach st [] (w ++ b ∷ s)
+    go blankByte e ih = counts st w (b ∷ s) (λ st. suc (tally st [] s)) p (λ q. let z : _≡_ {A = ℕ} 0 1 = cc in omega arith) (λ st. rw e (ap suc (ih st [] tt)))
     go left e ih = counts st w (b ∷ s) (λ st. stepped (step st opening) (λ st. tally st [] s)) p (λ q. let z : _≡_ {A = ℕ} 0 1 = cc in omega arith) (λ st. rw e (one ih (step st opening)))
     go right e ih = counts st w (b ∷ s) (λ st. stepped (step st closing) (λ st. tally st [] s)) p (λ q. let z : _≡_ {A = ℕ} 0 1 = cc in omega arith) (λ st. rw e (one ih (step st closing)))
-    go letter e ih = ih st (w ++ b ∷ []) (plain-end w b p e) ∙ ap (λ (l : List ℕ). reach st [] l) (append-assoc w (b ∷ []) s)
+    go wordByte e ih = ih st (w ++ b ∷ []) (plain-end w b p e) ∙ ap (λ (l : List ℕ). reach st [] l) (append-assoc w (b ∷ []) s)
 
 -- the same for the place that is found token by token
 pub token-place : (s : List ℕ) → tokenPlace s ≡ place s

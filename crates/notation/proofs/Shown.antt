@@ -10,7 +10,7 @@ use borrow.Author.Tests.{eqb-true}
 use Rattle.notation.specs.Words.{ascii, every, indexOf, isLetter, isDigit, nameByte, isName, reserved, ownName, operator, isCount, isNegative, isNumber, bitsOf, atom, binder}
 use Rattle.notation.specs.Words.{function, headOf, role}
 use Rattle.notation.specs.Grammar.{tokens, itemTokens, nameTokens, defTokens, defsTokens, programTokens, Fine, Fits, Exprs, Names, FineDefs}
-use Rattle.notation.specs.Text.{sort, Text, Longest}
+use Rattle.notation.specs.Text.{byteKind, Text, Longest}
 use Rattle.decide.proofs.Picks.{not-both, both}
 use Rattle.notation.proofs.Machine.{Symbol, step, run, start}
 use Rattle.notation.proofs.Lexing.{lex}
@@ -19,7 +19,7 @@ use Rattle.notation.proofs.Place.{texts-exactly, place, place-longest}
 
 unfoldable pub opened : ℕ → ℕ
 unfolding indexOf isLetter isDigit nameByte isName reserved ownName operator isCount isNegative isNumber bitsOf atom binder function headOf role
-    tokens itemTokens nameTokens defTokens defsTokens programTokens Fine Fits Exprs Names FineDefs sort step beginsAtom beginsBinder beginsFunction place
+    tokens itemTokens nameTokens defTokens defsTokens programTokens Fine Fits Exprs Names FineDefs byteKind step beginsAtom beginsBinder beginsFunction place
 opened n = n
 
 -- whether the machine is done

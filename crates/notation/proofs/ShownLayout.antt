@@ -6,17 +6,17 @@ use native.Mathlib.Omega.{arith}
 use lib.ListN.{replicate, take}
 use Rattle.notation.specs.Words.{ascii}
 use Rattle.notation.specs.Grammar.{Token, opening, closing, word, Tree, leaf, form, nil, Def, Program, tokens, defsTokens, programTokens}
-use Rattle.notation.specs.Text.{gap, left, right, letter, sort, Apart, Spaced, over, blank, enter, leave, spell, Text, Begins, Longest}
+use Rattle.notation.specs.Text.{blankByte, left, right, wordByte, byteKind, Apart, Spaced, over, blank, enter, leave, spell, Text, Begins, Longest}
 use Rattle.notation.proofs.Lexing.{lex}
 use Rattle.notation.proofs.Shown.{opened}
 
 -- "Spaces, line ends (bytes 10, 13) and brackets part words."
-parting : map sort (32 ∷ 10 ∷ 13 ∷ 40 ∷ 41 ∷ []) ≡ gap ∷ gap ∷ gap ∷ left ∷ right ∷ []
+parting : map byteKind (32 ∷ 10 ∷ 13 ∷ 40 ∷ 41 ∷ []) ≡ blankByte ∷ blankByte ∷ blankByte ∷ left ∷ right ∷ []
 unfolding opened
 parting = refl
 
 -- what stands beside them, a tab, and any other byte is part of a word
-no-parting : map sort (0 ∷ 9 ∷ 11 ∷ 12 ∷ 14 ∷ 31 ∷ 33 ∷ 39 ∷ 42 ∷ 48 ∷ 91 ∷ 97 ∷ 123 ∷ 127 ∷ 160 ∷ 255 ∷ []) ≡ replicate 16 letter
+no-parting : map byteKind (0 ∷ 9 ∷ 11 ∷ 12 ∷ 14 ∷ 31 ∷ 33 ∷ 39 ∷ 42 ∷ 48 ∷ 91 ∷ 97 ∷ 123 ∷ 127 ∷ 160 ∷ 255 ∷ []) ≡ replicate 16 wordByte
 unfolding opened
 no-parting = refl
 
@@ -88,9 +88,6 @@ not-shorter = (
   λ l. let h : 2 ≤ 1 = l .longest 2 (omega arith) (record { rest = ascii ")"; text = text-called }) in omega arith,
 )
 
-not-longer : Longest (ascii "1") 2 → ⊥
-not-longer l = let h : 2 ≤ 1 = l .within in omega arith
-
 -- no text begins with a closing bracket
 no-closing : (ds : List Def) (t : Tree) (ts : List Token) → defsTokens ds ++ tokens t ≡ closing ∷ ts → ⊥
 unfolding opened
@@ -111,3 +108,10 @@ nothing-shared = record { within = omega arith; begins = record { rest = ascii "
     longest : (j : ℕ) → j ≤ 1 → Begins (take j (ascii ")")) → j ≤ 0
     longest zero h b = omega arith
     longest (suc j) h b = absurd (closed (b .text .program) _ (take j [] ++ b .rest) (b .text .laid) refl)
+
+-- nor a place behind it: the closing bracket is not shared, and a place is within the bytes
+not-longer : (Longest (ascii ")") 1 → ⊥) × (Longest (ascii "1") 2 → ⊥)
+not-longer = (
+  λ l. closed (l .begins .text .program) _ (l .begins .rest) (l .begins .text .laid) refl,
+  λ l. let h : 2 ≤ 1 = l .within in omega arith,
+)

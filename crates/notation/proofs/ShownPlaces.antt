@@ -16,7 +16,7 @@ one-expression : refusals (("", 0) ∷ (" ", 1) ∷ ("(def f () 1)", 12) ∷ ("(
 unfolding opened
 one-expression = refl
 
--- a definition stands at the outermost level, before the expression: within one, "(def" may still begin a name (4.6)
+-- a definition stands at the outermost level, before the expression: within one, "(def" may still begin a name (L4.6)
 outermost : refusals (("(+ (def", 7) ∷ ("(+ (def f () 1) 2)", 7) ∷ ("(+ (def)", 7) ∷ ("(def f (a) (def g () 1)) 1", 15) ∷ ("(def f () 1) (f (def g () 1))", 20) ∷ []) ≡ true
 unfolding opened
 outermost = refl
@@ -32,20 +32,20 @@ parameters : refusals (("(def f (a b c d e) 1) 1", 16) ∷ ("(def f (a b c d ) 1
 unfolding opened
 parameters = refl
 
--- what is bound is a name (4.1): 19 for an operator or a number, not for a reserved name
+-- what is bound is a name (L4.1): 19 for an operator or a number, not for a reserved name
 bound : (refusals (("(def + (a b) a) 1", 5) ∷ ("(def 1 () 1) 1", 5) ∷ ("(def -1 () 1) 1", 5) ∷ ("(def f (a *) a) 1", 10) ∷ ("(def f (2) 1) 1", 8) ∷ ("(rep 1 0 0)", 5)
     ∷ ("(rep + 0 0)", 5) ∷ ("(rep (x) 0 0)", 5) ∷ []) ≡ true)
     × (texts ("(def if () 1) 1" ∷ "(def f (inf rep) 1) 1" ∷ "(rep def 0 1)" ∷ []) ≡ true)
 unfolding opened
 bound = (refl, refl)
 
--- "elsewhere it is only itself": a word of the notation is no expression (4.3); `if` may go on as a name does
+-- "elsewhere it is only itself": a word of the notation is no expression (L4.3); `if` may go on as a name does
 only-itself : refusals (("if", 2) ∷ ("if ", 2) ∷ ("(f if)", 5) ∷ ("(f if 1)", 5) ∷ ("nbr-range", 9) ∷ ("(inf)", 4) ∷ ("(inf 1)", 4) ∷ ("+", 0) ∷ ("(sense +)", 7) ∷ ("(f +)", 3)
     ∷ ("(f -)", 4) ∷ []) ≡ true
 unfolding opened
 only-itself = refl
 
--- "A call may have any number of operands": the others have those of their kind (4.3)
+-- "A call may have any number of operands": the others have those of their kind (L4.3)
 too-few : refusals (("(+ 1)", 4) ∷ ("(+)", 2) ∷ ("(if 1 2)", 7) ∷ ("(mux 1 2)", 8) ∷ ("(sense)", 6) ∷ ("(nbr)", 4) ∷ ("(rep x)", 6) ∷ ("(rep x 0)", 8) ∷ ("(fold-hood* +)", 13)
     ∷ ("(fold-hood* + 1)", 15) ∷ []) ≡ true
 unfolding opened
@@ -56,7 +56,7 @@ too-many : refusals (("(+ 1 2 3)", 7) ∷ ("(if 1 2 3 4)", 10) ∷ ("(mux 1 2 3 
 unfolding opened
 too-many = refl
 
--- the function of a fold is an operator or a name that is no word of the notation (4.4)
+-- the function of a fold is an operator or a name that is no word of the notation (L4.4)
 fold : refusals (("(fold-hood* if 1 2)", 14) ∷ ("(fold-hood* inf 1 2)", 15) ∷ ("(fold-hood* 1 1 2)", 12) ∷ ("(fold-hood* -1 1 2)", 13) ∷ ("(fold-hood* (+) 1 2)", 12)
     ∷ ("(fold-hood* <= 1 2)", 13) ∷ []) ≡ true
 unfolding opened
@@ -72,7 +72,7 @@ operators : texts ("(- 1 2)" ∷ "(* 1 2)" ∷ "(/ 1 2)" ∷ "(< 1 2)" ∷ "(> 1
 unfolding opened
 operators = refl
 
--- "one outside floor..inf is outside the grammar": 2147483648 is the first, and no text begins with it, leading zeros or not (4.6); -2147483648 is below floor
+-- "one outside floor..inf is outside the grammar": 2147483648 is the first, and no text begins with it, leading zeros or not (L4.6); -2147483648 is below floor
 numbers : (refusals (("2147483648", 9) ∷ ("002147483648", 11) ∷ ("-2147483648", 10) ∷ ("99999999999", 9) ∷ ("(f 21474836470)", 13) ∷ ("-", 1) ∷ ("--1", 1) ∷ ("-inf", 1) ∷ ("1x", 1)
     ∷ ("1.5", 1) ∷ ("1-", 1) ∷ []) ≡ true)
     × (texts ("2147483647" ∷ "-2147483647" ∷ "0000000000002147483647" ∷ "-0" ∷ "-007" ∷ []) ≡ true)
@@ -86,7 +86,7 @@ names : (refusals (("abcdefghijklmnopq", 16) ∷ ("(f abcdefghijklmnopq)", 19) �
 unfolding opened
 names = (refl, refl)
 
--- "Spaces, line ends (bytes 10, 13) and brackets part words.": blanks are needed nowhere else; a tab parts none and stands in none (4.7)
+-- "Spaces, line ends (bytes 10, 13) and brackets part words.": blanks are needed nowhere else; a tab parts none and stands in none (L4.7)
 blanks : (texts ("(def f()1)2" ∷ " ( f\n1\r2 ) " ∷ "(f 1(g)2)" ∷ "\r\n1\r\n" ∷ "(def f(a)a)(f 1)" ∷ []) ≡ true)
     × (refusals (("(+ 1\t2)", 4) ∷ ("\t1", 0) ∷ ("1\t", 1) ∷ ("x\t", 1) ∷ ("1\u{c}", 1) ∷ ("1\0", 1) ∷ ("1\u{a0}", 1) ∷ ("1,2", 1) ∷ []) ≡ true)
 unfolding opened

@@ -22,13 +22,13 @@ names : (all isName ("a" ∷ "z" ∷ "x0" ∷ "x9" ∷ "x-" ∷ "x*" ∷ "distan
 unfolding opened
 names = (refl, refl)
 
--- "the names and operators of source document 000, `<` and nbr-lag": ten words spelt like names; an operator is none (4.1)
+-- "the names and operators of source document 000, `<` and nbr-lag": ten words spelt like names; an operator is none (L4.1)
 words-of-the-notation : (reservedWords ≡ map ascii ("def" ∷ "sense" ∷ "rep" ∷ "if" ∷ "mux" ∷ "nbr" ∷ "nbr-range" ∷ "nbr-lag" ∷ "fold-hood*" ∷ "inf" ∷ []))
     × (every isName reservedWords ≡ true) × (every reserved reservedWords ≡ true) × (map ownName reservedWords ≡ replicate 10 false)
 unfolding opened
 words-of-the-notation = (refl, refl, refl, refl)
 
--- "A word of the notation can't name anything": words that only look like one can; share is none of its words (4.13)
+-- "A word of the notation can't name anything": words that only look like one can; share is none of its words (L4.13)
 own-names : (all ownName ("share" ∷ "iffy" ∷ "in" ∷ "nbr-" ∷ "nbr-vec" ∷ "fold-hood" ∷ "min" ∷ "defs" ∷ "i" ∷ []) ≡ true) × (none ownName ("if" ∷ "inf" ∷ "+" ∷ "1" ∷ "" ∷ []) ≡ true)
 unfolding opened
 own-names = (refl, refl)
@@ -57,12 +57,12 @@ alone : (all atom ("x" ∷ "share" ∷ "1" ∷ "-1" ∷ "inf" ∷ []) ≡ true) 
 unfolding opened
 alone = (refl, refl)
 
--- what is bound is a name, "where something is bound it is a reserved name", which 20 refuses; no operator and no number (4.1)
+-- what is bound is a name, "where something is bound it is a reserved name", which 20 refuses; no operator and no number (L4.1)
 bound : (all binder ("x" ∷ "if" ∷ "def" ∷ "inf" ∷ "share" ∷ []) ≡ true) × (none binder ("+" ∷ "*" ∷ "1" ∷ "-1" ∷ "" ∷ "abcdefghijklmnopq" ∷ []) ≡ true)
 unfolding opened
 bound = (refl, refl)
 
--- the function of a fold: an operator, or a name that is no word of the notation (4.4)
+-- the function of a fold: an operator, or a name that is no word of the notation (L4.4)
 functions : (all function ("+" ∷ "<" ∷ "!=" ∷ "min" ∷ "share" ∷ []) ≡ true) × (none function ("if" ∷ "mux" ∷ "def" ∷ "inf" ∷ "1" ∷ "<=" ∷ "" ∷ []) ≡ true)
 unfolding opened
 functions = (refl, refl)
@@ -78,7 +78,7 @@ other-heads : (map headOf operators ≡ replicate 9 operation) × (map (λ s. he
 unfolding opened
 other-heads = (refl, refl, refl)
 
--- "A call may have any number of operands"; the others have those of their kind (4.3)
+-- "A call may have any number of operands"; the others have those of their kind (L4.3)
 roles : map (λ s. role (ascii s)) ("+" ∷ "!=" ∷ "sense" ∷ "rep" ∷ "if" ∷ "mux" ∷ "nbr" ∷ "nbr-range" ∷ "nbr-lag" ∷ "fold-hood*" ∷ "f" ∷ "def" ∷ "inf" ∷ [])
     ≡ fixed (anExpression ∷ anExpression ∷ []) ∷ fixed (anExpression ∷ anExpression ∷ []) ∷ fixed (anExpression ∷ []) ∷ fixed (aBinder ∷ anExpression ∷ anExpression ∷ [])
     ∷ fixed (anExpression ∷ anExpression ∷ anExpression ∷ []) ∷ fixed (anExpression ∷ anExpression ∷ anExpression ∷ []) ∷ fixed (anExpression ∷ []) ∷ fixed [] ∷ fixed []

@@ -8,7 +8,7 @@ use lib.ListN.{length, getD, drop}
 use lib.Seq.{drop-length}
 use Rattle.notation.specs.Words.{Word, noForm, between, role, roleOf}
 use Rattle.notation.specs.Grammar.{Token, opening, closing, word}
-use Rattle.notation.specs.Text.{Sort, left, right, sort, Plain, Apart}
+use Rattle.notation.specs.Text.{ByteKind, left, right, byteKind, Plain, Apart}
 use Rattle.notation.proofs.Machine.{Symbol, step}
 use Rattle.notation.proofs.Lexing.{lex}
 use Rattle.notation.proofs.Place.{afterWord, reach}
@@ -44,8 +44,8 @@ coded closing = tt
 coded (word w) = coded-word w
 
 -- ---- a bracket
-abbrev On : Sort → Token → Type 0
-On o t = (st : List Symbol) (b : ℕ) (s : List ℕ) → sort b ≡ o
+abbrev On : ByteKind → Token → Type 0
+On o t = (st : List Symbol) (b : ℕ) (s : List ℕ) → byteKind b ≡ o
     → ((st′ : List Symbol) → step st t ≡ some st′ → reach st [] (b ∷ s) ≡ 1 + reach st′ [] s) × (step st t ≡ none → reach st [] (b ∷ s) ≡ 0)
 
 on-left : On left opening
@@ -65,7 +65,7 @@ Taken s start end t =
     ((st st′ : List Symbol) → step st t ≡ some st′ → reach st [] (drop start s) ≡ (end - start) + reach st′ [] (drop end s))
     × ((st : List Symbol) → step st t ≡ none → reach st [] (drop start s) ≡ front st t) × ((st : List Symbol) → front st t ≤ end - start)
 
-by-bracket : (s : List ℕ) (start end : ℕ) (o : Sort) (t : Token) → On o t → ((st : List Symbol) → front st t ≡ 0) → sort (getD s start 0) ≡ o
+by-bracket : (s : List ℕ) (start end : ℕ) (o : ByteKind) (t : Token) → On o t → ((st : List Symbol) → front st t ≡ 0) → byteKind (getD s start 0) ≡ o
     → drop start s ≡ getD s start 0 ∷ drop end s → end ≡ suc start → Taken s start end t
 by-bracket s start end o t f z q d e =
     let one : end - start ≡ 1 = omega (arith, e) in (

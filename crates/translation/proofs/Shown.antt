@@ -25,10 +25,10 @@ unfolding notation program resolves itemsResolve parametersGood definitionGood n
 opened n = n
 
 -- the program that a text's brackets make is fine, and is spelt so
-abbrev pub Sound : List ℕ → Type 0
-Sound s = (lex s ≡ programTokens (programOf s)) × (isFine (programOf s) ≡ true)
+abbrev pub Spelt : List ℕ → Type 0
+Spelt s = (lex s ≡ programTokens (programOf s)) × (isFine (programOf s) ≡ true)
 
-pub reads-as : (s out : List ℕ) → Sound s → Reads s out (compiled (programOf s) out .0) (compiled (programOf s) out .1)
+pub reads-as : (s out : List ℕ) → Spelt s → Reads s out (compiled (programOf s) out .0) (compiled (programOf s) out .1)
 reads-as s out h = answers (programOf s) (fine-program (programOf s) (h .1)) (h .0) refl
 
 -- ---- what is answered whatever the slice is: names and tables
@@ -44,7 +44,7 @@ Gives s t = (out : List ℕ) → Reads s out (cond (ltb (length out) (length t))
 abbrev pub verdict : List ℕ → Verdict
 verdict s = let p = programOf s in cond (namesGood p) (check (table p)) (20, 0)
 
-pub refuses : (s : List ℕ) (r : Verdict) → Sound s → verdict s ≡ r → eqb (r .0) 0 ≡ false → Refused s r
+pub refuses : (s : List ℕ) (r : Verdict) → Spelt s → verdict s ≡ r → eqb (r .0) 0 ≡ false → Refused s r
 unfolding compiled
 refuses s r h e n out = answers p (fine-program p (h .1)) (h .0) (go (namesGood p) e)
   where
@@ -57,7 +57,7 @@ refuses s r h e n out = answers p (fine-program p (h .1)) (h .0) (go (namesGood 
     go true e = rw (e, n)
     go false e = rw (sym e)
 
-pub gives : (s t : List ℕ) → Sound s → namesGood (programOf s) ≡ true → table (programOf s) ≡ t → check t ≡ (0, 0) → Gives s t
+pub gives : (s t : List ℕ) → Spelt s → namesGood (programOf s) ≡ true → table (programOf s) ≡ t → check t ≡ (0, 0) → Gives s t
 unfolding compiled
 gives s t h n f e out = answers (programOf s) (fine-program (programOf s) (h .1)) (h .0) (rw (n, f) (go (ltb (length out) (length t)) e))
   where
@@ -71,13 +71,13 @@ pub data Each (P : List ℕ → Type 0) : List String → Type 0 where
   none : Each P []
   more : {s : String} {l : List String} → P (ascii s) → Each P l → Each P (s ∷ l)
 
-abbrev SoundAll : List String → Type 0
-SoundAll l = (map (λ s. lex (ascii s)) l ≡ map (λ s. programTokens (programOf (ascii s))) l) × (every (λ s. isFine (programOf (ascii s))) l ≡ true)
+abbrev AllSpelt : List String → Type 0
+AllSpelt l = (map (λ s. lex (ascii s)) l ≡ map (λ s. programTokens (programOf (ascii s))) l) × (every (λ s. isFine (programOf (ascii s))) l ≡ true)
 
 abbrev pub AllRefused : List String → Verdict → Type 0
 AllRefused l r = Each (λ s. Refused s r) l
 
-pub all-refused : (l : List String) (r : Verdict) → SoundAll l → map (λ s. verdict (ascii s)) l ≡ map (λ s. r) l → eqb (r .0) 0 ≡ false → AllRefused l r
+pub all-refused : (l : List String) (r : Verdict) → AllSpelt l → map (λ s. verdict (ascii s)) l ≡ map (λ s. r) l → eqb (r .0) 0 ≡ false → AllRefused l r
 all-refused [] r h e n = none
 all-refused (s ∷ l) r h e n =
     let t = h .0 in
@@ -88,7 +88,7 @@ all-refused (s ∷ l) r h e n =
 abbrev pub AllAccepted : List String → Type 0
 AllAccepted l = Each (λ s. Gives s (table (programOf s))) l
 
-pub all-accepted : (l : List String) → SoundAll l → every (λ s. namesGood (programOf (ascii s))) l ≡ true → map (λ s. check (table (programOf (ascii s)))) l ≡ map (λ s. (0, 0)) l → AllAccepted l
+pub all-accepted : (l : List String) → AllSpelt l → every (λ s. namesGood (programOf (ascii s))) l ≡ true → map (λ s. check (table (programOf (ascii s)))) l ≡ map (λ s. (0, 0)) l → AllAccepted l
 all-accepted [] h n e = none
 all-accepted (s ∷ l) h n e =
     let t = h .0 in

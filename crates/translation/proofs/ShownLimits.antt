@@ -26,7 +26,7 @@ slot-16 : Refused (nested 16 (ascii "(fold-hood* + 0 (nbr ") (ascii "1") (ascii 
 unfolding opened
 slot-16 = refuses _ _ (refl, refl) refl refl
 
--- sixteen variables pass, the seventeenth is 3 at the node that reads it, where none does at its rep (4.12)
+-- sixteen variables pass, the seventeenth is 3 at the node that reads it, where none does at its rep (L4.12)
 sixteen-variables : Gives (nested 16 (ascii "(rep x 0 ") (ascii "x") (ascii ")")) (table (programOf (nested 16 (ascii "(rep x 0 ") (ascii "x") (ascii ")"))))
 unfolding opened
 sixteen-variables = gives _ _ (refl, refl) refl refl refl
@@ -73,7 +73,7 @@ uses : AllRefused ("(def f (a) a) (fold-hood* f 0 (nbr 1))" ∷ "(def f () (rep 
 unfolding opened
 uses = (all-refused _ _ (refl, refl) refl refl, all-refused _ _ (refl, refl) refl refl)
 
--- the 257th node: 2 at its field, before the call that would name it (4.12)
+-- the 257th node: 2 at its field, before the call that would name it (L4.12)
 node-257 : Refused (ascii "(def f () 1) (f " ++ times 256 (ascii "1 ") ++ ascii ")") (2, 257)
 unfolding opened
 node-257 = refuses _ _ (refl, refl) refl refl

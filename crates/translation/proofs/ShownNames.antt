@@ -18,7 +18,7 @@ earlier : AllRefused ("(def f () (f)) 1" ∷ "(def f (a) (f a)) (f 1)" ∷ "(def
 unfolding opened
 earlier = all-refused _ _ (refl, refl) refl refl
 
--- two name spaces (4.9): a definition is no value, a binder no head and no fold's function
+-- two name spaces (L4.9): a definition is no value, a binder no head and no fold's function
 two-name-spaces : AllRefused ("(def f () 1) f" ∷ "(def f () 1) (+ f 1)" ∷ "(def f (g) (g)) 1" ∷ "(rep f 0 (f))" ∷ "(def f (g) (fold-hood* g 0 (nbr 1))) (f 1)"
     ∷ "(rep g 0 (fold-hood* g 0 (nbr 1)))" ∷ []) (20, 0)
 unfolding opened
@@ -34,7 +34,7 @@ update-only : AllRefused ("(rep x x 1)" ∷ "(rep x (+ x 1) x)" ∷ "(rep x (rep
 unfolding opened
 update-only = all-refused _ _ (refl, refl) refl refl
 
--- its initial part sees what is around the rep (4.11), which may have the same name: "repeated (definition, or parameter of one)" (4.10)
+-- its initial part sees what is around the rep (L4.11), which may have the same name: "repeated (definition, or parameter of one)" (L4.10)
 bound-again : AllAccepted ("(rep x 0 (rep x x x))" ∷ "(rep y 1 (rep x y (+ x y)))" ∷ "(def f (x) (rep x x x)) (f 1)" ∷ "(rep x 0 (+ (rep x 1 x) x))" ∷ "(+ (rep x 0 x) (rep x 0 x))"
     ∷ "(def f (a) a) (def g (a) a) (+ (f 1) (g 1))" ∷ "(def f (a) a) (rep a 0 (f a))" ∷ [])
 unfolding opened
@@ -62,7 +62,7 @@ reserved-variables : AllRefused ("(rep if 0 1)" ∷ "(rep inf 0 inf)" ∷ "(rep 
 unfolding opened
 reserved-variables = all-refused _ _ (refl, refl) refl refl
 
--- words of no reserved name (4.13)
+-- words of no reserved name (L4.13)
 good-names : AllAccepted ("(def share () 1) (share)" ∷ "(rep share 0 share)" ∷ "(def iffy (nbr-) nbr-) (iffy 1)" ∷ "(def abcdefghijklmnop () 1) (abcdefghijklmnop)" ∷ [])
 unfolding opened
 good-names = all-accepted _ (refl, refl) refl refl

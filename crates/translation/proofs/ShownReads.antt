@@ -30,7 +30,7 @@ written : Reads (ascii "1") (replicate 12 9) (0, 12) one × Reads (ascii "1") (r
 unfolding opened
 written = (reads-as _ _ (refl, refl), reads-as _ _ (refl, refl))
 
--- "one too short gets 13": one byte short, the empty slice. The room is the table's, whatever the text's length (4.14)
+-- "one too short gets 13": one byte short, the empty slice. The room is the table's, whatever the text's length (L4.14)
 too-short : Reads (ascii "1") (replicate 11 9) (13, 0) (replicate 11 9) × Reads (ascii "1") [] (13, 0) [] × Reads (ascii "     00000000000000001     ") (replicate 12 9) (0, 12) one
 unfolding opened
 too-short = (reads-as _ _ (refl, refl), reads-as _ _ (refl, refl), reads-as _ _ (refl, refl))
@@ -66,12 +66,16 @@ accepted =
     let s : List ℕ = ascii "(def f (a) a) (f 1)" in
     record { program = programOf s; fine = fine-program (programOf s) refl; laid = spaced-exactly (programTokens (programOf s)) s .1 refl; names = refl; passes = refl }
 
--- not where it is outside the grammar, a name does not resolve, or the table is refused
-not-accepted : (Accepted (ascii "(1") → ⊥) × (Accepted (ascii "x") → ⊥) × (Accepted (ascii "(nbr 1)") → ⊥)
+-- not where it is outside the grammar, a name does not resolve, is reserved or repeated, or the table is refused; the second, fourth and fifth have a table that passes
+not-accepted : (Accepted (ascii "(1") → ⊥) × (Accepted (ascii "(rep + 0 0)") → ⊥) × (Accepted (ascii "x") → ⊥) × (Accepted (ascii "(def if () 1) 1") → ⊥)
+    × (Accepted (ascii "(def f () 1) (def f () 1) 1") → ⊥) × (Accepted (ascii "(nbr 1)") → ⊥)
 unfolding opened
 not-accepted = (
   λ a. outside-longest (ascii "(1") 1 refl .0 (record { program = a .program; fine = a .fine; laid = a .laid }),
+  λ a. outside-longest (ascii "(rep + 0 0)") 5 refl .0 (record { program = a .program; fine = a .fine; laid = a .laid }),
   λ a. not-both (sym (a .names) ∙ ap namesGood (same (ascii "x") a refl refl)),
+  λ a. not-both (sym (a .names) ∙ ap namesGood (same (ascii "(def if () 1) 1") a refl refl)),
+  λ a. not-both (sym (a .names) ∙ ap namesGood (same (ascii "(def f () 1) (def f () 1) 1") a refl refl)),
   λ a. let e = sym (a .passes) ∙ ap (λ (p : Program). check (table p) .0) (same (ascii "(nbr 1)") a refl refl) in omega (arith, e),
 )
   where

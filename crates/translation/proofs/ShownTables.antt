@@ -38,7 +38,7 @@ distance-to : Gives (
 unfolding opened
 distance-to = gives _ _ (refl, refl) refl refl refl
 
--- "Slots and variables are given out from 1 and 0 in reading order": of the words in the text, the outer nbr before the inner (4.2)
+-- "Slots and variables are given out from 1 and 0 in reading order": of the words in the text, the outer nbr before the inner (L4.2)
 outer-slot-first : Gives (ascii "(fold-hood* + 0 (nbr (fold-hood* + 0 (nbr 1))))")
     (programBytes (x 0 (0 ∷ []) ∷ x 0 (0 ∷ []) ∷ x 0 (1 ∷ []) ∷ x 8 (2 ∷ 2 ∷ []) ∷ x 10 (0 ∷ 1 ∷ 3 ∷ []) ∷ x 8 (1 ∷ 4 ∷ []) ∷ x 10 (0 ∷ 0 ∷ 5 ∷ []) ∷ []) 6)
 unfolding opened
@@ -81,7 +81,7 @@ nearest : Gives (ascii "(rep x 0 (rep x x x))") (programBytes (x 0 (0 ∷ []) �
 unfolding opened
 nearest = (gives _ _ (refl, refl) refl refl refl, gives _ _ (refl, refl) refl refl refl, gives _ _ (refl, refl) refl refl refl)
 
--- two name spaces (4.9), to the byte: a parameter, or a variable, with the name of a definition that is called or folded by
+-- two name spaces (L4.9), to the byte: a parameter, or a variable, with the name of a definition that is called or folded by
 alike-in-both : Gives (ascii "(def f (f) f) (f 1)") (programBytes (x 1 (0 ∷ []) ∷ def 1 0 ∷ x 0 (1 ∷ []) ∷ x 12 (0 ∷ 1 ∷ []) ∷ []) 2)
     × Gives (ascii "(def e () 5) (def f () 1) (rep f 0 (+ f (f)))")
     (programBytes (x 0 (5 ∷ []) ∷ def 0 0 ∷ x 0 (1 ∷ []) ∷ def 0 1 ∷ x 0 (0 ∷ []) ∷ x 2 (0 ∷ []) ∷ x 12 (1 ∷ []) ∷ x 3 (0 ∷ 3 ∷ 4 ∷ []) ∷ x 5 (0 ∷ 2 ∷ 5 ∷ []) ∷ []) 6)
@@ -119,7 +119,7 @@ folds : map (λ s. table (programOf (ascii s))) ("(fold-hood* - 0 (nbr 1))" ∷ 
 unfolding opened
 folds = refl
 
--- constants
+-- "Numbers are decimal digits, leading zeros allowed, with an optional minus, or `inf`": as constants of the table
 constants : map (λ s. table (programOf (ascii s))) ("007" ∷ "-1" ∷ "inf" ∷ "-2147483647" ∷ "258" ∷ [])
     ≡ map (λ b. programBytes (x 0 (b ∷ []) ∷ []) 0) (7 ∷ 0xffffffff ∷ 0x7fffffff ∷ 0x80000001 ∷ 0x102 ∷ [])
 unfolding opened

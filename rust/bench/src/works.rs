@@ -295,6 +295,13 @@ fn names(size: usize) -> Vec<u8> {
     filled(size, "(def h () 1)(def g (x) (h", " x", "))1")
 }
 
+/// So many definitions that the text has about this size. Each name is sought among those before it, from the start.
+fn definitions(size: usize) -> Vec<u8> {
+    let one = |n: usize| format!("(def d{n:06}()1)");
+    let all: String = (0..(size - 1) / one(0).len()).map(one).collect();
+    (all + "1").into_bytes()
+}
+
 /// Calls in calls, so deep that the text has this size.
 fn nested(size: usize) -> Vec<u8> {
     let front = "(def f (a) a)";
@@ -317,6 +324,7 @@ fn texts() -> Vec<Work> {
         read_text("the same with blanks, 16 KB", spread(16 * KB), 0, 10),
         read_text("read_text of 16 KB: a call of numbers, refused with 2", filled(16 * KB, call, " 1", ")"), 2, 10),
         read_text("read_text of 16 KB: a parameter read again and again, refused with 2", names(16 * KB), 2, 1),
+        read_text("read_text of 16 KB: definitions of a number, refused with 2", definitions(16 * KB), 2, 1),
         read_text("read_text of 1 MB: a call of numbers, refused with 2", filled(MB, call, " 1", ")"), 2, 1),
         read_text("read_text of 1 MB: calls in calls, (f(f(f.., refused with 2", nested(MB), 2, 1),
         Work {

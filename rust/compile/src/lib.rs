@@ -4,7 +4,7 @@
 
 mod scan;
 
-use scan::{next_token, Lines, Scan, Span};
+use scan::{is_blank, next_token, parts_words, Lines, Scan, Span};
 
 /// What reads texts: `cuddystove_read_text`, or a stand-in for it.
 pub trait Reader {
@@ -65,7 +65,7 @@ pub fn nodes(reader: &dyn Reader, text: &[u8]) -> Option<String> {
 /// The words of a node with one blank between them, cut where they are many.
 fn on_one_line(words: &[u8]) -> String {
     let mut line = String::new();
-    for piece in words.split(|byte| b" \n\r".contains(byte)).filter(|piece| !piece.is_empty()) {
+    for piece in words.split(|byte| is_blank(*byte)).filter(|piece| !piece.is_empty()) {
         let blank = if line.is_empty() { "" } else { " " };
         line.push_str(blank);
         line.extend(piece.iter().take(61).map(|byte| char::from(*byte)));
@@ -153,15 +153,13 @@ fn of_a_node(number: u32) -> &'static str {
 /// The end of the words that can stand before the place of 19. A word that ends there may be shared only as the
 /// beginning of a longer one; whether it can stand itself the reader says, asked with a blank behind it.
 fn fine_words(reader: &dyn Reader, text: &[u8], place: usize) -> usize {
-    let parts = |byte: &u8| b" \n\r()".contains(byte);
-    let start = text[..place].iter().rposition(parts).map_or(0, |at| at + 1);
-    let parted = [&text[..place], b" "].concat();
-    let stands = start == place || reader.read_text(&parted, &mut []) != (19, place);
-    match text.get(place) {
-        Some(byte) if !parts(byte) => start,
-        _ if stands => place,
-        _ => start,
+    let start = text[..place].iter().rposition(|byte| parts_words(*byte)).map_or(0, |at| at + 1);
+    let goes_on = text.get(place).is_some_and(|byte| !parts_words(*byte));
+    let stands = || reader.read_text(&[&text[..place], b" "].concat(), &mut []) != (19, place);
+    if start == place || !goes_on && stands() {
+        return place;
     }
+    start
 }
 
 /// Why a text is outside the grammar, and what would go on behind its fine words.
@@ -176,20 +174,21 @@ fn outside(text: &[u8], place: usize, scan: &Scan, fine: usize) -> String {
         return format!("the text ends here: {wanted}.{open}");
     };
     let (word, shown) = (scan.word(token), scan.shown(token));
-    if let Some(byte) = word.iter().find(|byte| !of_the_notation(**byte)) {
+    if let Some(byte) = text.get(place).filter(|byte| !is_blank(**byte) && !of_the_notation(**byte)) {
         return strange(*byte, &shown);
     }
+    // A word of which nothing is shared is not itself what is wrong: none may stand here, or none of its kind.
     let (within, whole) = (place > token.start, place == token.end);
     match word {
-        b"-inf" => "`inf` takes no minus; the least number is -2147483647.".into(),
-        b"=" => "there is no `=`; equality is `==`.".into(),
-        b"!" => "there is no `!`; unequal is `!=`.".into(),
-        b"<=" => "there is no `<=`; write `(>= b a)` for `(<= a b)`.".into(),
+        b"-inf" if within && !scan.at_function() => "`inf` takes no minus; the least number is -2147483647.".into(),
+        b"=" if within => "there is no `=`; equality is `==`.".into(),
+        b"!" if within => "there is no `!`; unequal is `!=`.".into(),
+        b"<=" if within => "there is no `<=`; write `(>= b a)` for `(<= a b)`.".into(),
         b"def" if whole && scan.at_head() => {
             "a definition cannot stand within an expression; definitions come first.".into()
         }
         b"inf" if whole && scan.at_head() => "`inf` is a number and heads nothing.".into(),
-        _ if within && is_decimal(word) => match is_past_inf(word) {
+        _ if within && is_decimal(word) => match is_past_inf(word) && !scan.at_function() {
             true => format!("{shown} is outside floor..inf, -2147483647 to 2147483647."),
             false => format!("{shown} is a number and cannot stand here: {wanted}."),
         },
@@ -299,7 +298,7 @@ mod tests {
             ("2147483648", "1:10", "19 9", "`2147483648` is outside floor..inf, -2147483647 to 2147483647."),
             ("abcdefghijklmnopq", "1:17", "19 16", "`abcdefghijklmnopq` has more than 16 characters."),
             ("(+ if 1)", "1:6", "19 5", "`if` is a word of the notation and cannot stand here: `+` takes 2 operands, and has 0 so far."),
-            ("(def f (a b c d e) 1) 2", "1:17", "19 16", "`e` cannot follow: a definition has at most 4 parameters."),
+            ("(def f (a b c d e) 1) 2", "1:17", "19 16", "`e` cannot follow: a definition has at most 4 parameters, and a bracket closes them."),
             ("(def f a 1) 2", "1:8", "19 7", "`a` cannot follow: the parameters stand in brackets, also where there is one or none."),
             ("(nbr-range 1)", "1:12", "19 11", "`1` cannot follow: `nbr-range` takes no operand, and a bracket closes it."),
             ("()", "1:2", "19 1", "`)` cannot follow: an opening bracket is followed by an operator, the word of a form (`sense`, `rep`, `if` ..), a definition's name or `def`."),
@@ -327,6 +326,9 @@ mod tests {
             ),
             ("(inf)", "1:5", "19 4", "`inf` is a number and heads nothing."),
             ("-inf", "1:2", "19 1", "`inf` takes no minus; the least number is -2147483647."),
+            ("(-inf 1)", "1:3", "19 2", &format!("`-inf` is no word of the notation; is a blank missing? A{HEAD}, a definition's name or `def`.")),
+            ("(+ 1 2 -inf)", "1:8", "19 7", "`-inf` cannot follow: `+` takes 2 operands, and a bracket closes it."),
+            ("(-99999999999 2)", "1:3", "19 2", &format!("`-99999999999` is a number and cannot stand here: {head}")),
             ("-2147483648", "1:11", "19 10", "`-2147483648` is outside floor..inf, -2147483647 to 2147483647."),
             ("0002147483648", "1:13", "19 12", "`0002147483648` is outside floor..inf, -2147483647 to 2147483647."),
             ("99999999999", "1:10", "19 9", "`99999999999` is outside floor..inf, -2147483647 to 2147483647."),
@@ -382,6 +384,21 @@ mod tests {
             ("1.5", "1:2", "19 1", "`.` is part of no word of the notation."),
             ("(+ a\u{7f} 1)", "1:5", "19 4", "byte 127 is part of no word of the notation."),
             ("(+ \u{e9} 1)", "1:4", "19 3", "byte 195 is part of no word of the notation."),
+        ] {
+            begins(text, at, refused, sentence);
+        }
+    }
+
+    /// Where no word, or none of its kind, may stand, the word itself is not blamed, nor what is odd in it behind the place.
+    #[test]
+    fn words_that_cannot_follow() {
+        for (text, at, refused, sentence) in [
+            ("1 <=", "1:3", "19 2", "`<=` cannot follow: nothing follows the main expression."),
+            ("(x = 3)", "1:4", "19 3", "`=` cannot follow: here stands an operand or the closing bracket."),
+            ("(rep ! 0 1)", "1:6", "19 5", "`!` cannot follow: `rep` is followed by the variable's name."),
+            ("1 x;", "1:3", "19 2", "`x;` cannot follow: nothing follows the main expression."),
+            ("(1\t2)", "1:2", "19 1", &format!("`1?2` cannot follow: a{HEAD}, a definition's name or `def`.")),
+            ("abcdefghijklmnopqR", "1:17", "19 16", "`abcdefghijklmnopqR` has more than 16 characters."),
         ] {
             begins(text, at, refused, sentence);
         }

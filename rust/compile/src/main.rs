@@ -3,8 +3,8 @@
 #![forbid(unsafe_code)]
 
 use compile::{compile, nodes, Reader};
-use std::fs::Metadata;
-use std::io::Write;
+use std::fs::{File, Metadata, OpenOptions, Permissions};
+use std::io::{ErrorKind, Write};
 use std::os::unix::fs::MetadataExt;
 use std::path::{Path, PathBuf};
 use std::process::ExitCode;
@@ -51,15 +51,26 @@ fn write(path: &Path, bytes: &[u8]) -> Result<(), Failed> {
     done.map_err(|error| Failed(format!("compile: {}: {error}", path.display())))
 }
 
-/// Writes a file beside the one that is meant, and puts it in its place.
+/// Writes a file beside the one that is meant, with its rights, and puts it in its place, unless that may not be written.
 fn replace(file: &Path, bytes: &[u8]) -> std::io::Result<()> {
-    let name = file.file_name().ok_or_else(|| std::io::Error::other("this names no file"))?;
-    let new = file.with_file_name(format!(".{}.{}", name.to_string_lossy(), std::process::id()));
-    let done = std::fs::write(&new, bytes).and_then(|()| std::fs::rename(&new, file));
+    let rights = std::fs::metadata(file).ok().map(|data| data.permissions());
+    if rights.as_ref().is_some_and(Permissions::readonly) {
+        return Err(ErrorKind::PermissionDenied.into());
+    }
+    file.file_name().ok_or_else(|| std::io::Error::other("this names no file"))?;
+    let path = file.with_file_name(format!(".compile.{}", std::process::id()));
+    // A new file: what stands there by this name is not ours, and may be a link.
+    let new = OpenOptions::new().write(true).create_new(true).open(&path)?;
+    let done = fill(new, bytes, rights).and_then(|()| std::fs::rename(&path, file));
     if done.is_err() {
-        let _ = std::fs::remove_file(&new);
+        let _ = std::fs::remove_file(&path);
     }
     done
+}
+
+fn fill(mut file: File, bytes: &[u8], rights: Option<Permissions>) -> std::io::Result<()> {
+    file.write_all(bytes)?;
+    rights.map_or(Ok(()), |rights| file.set_permissions(rights))
 }
 
 fn print(text: &str) -> Result<(), Failed> {

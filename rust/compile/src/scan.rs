@@ -1,5 +1,6 @@
 //! The tool's own look at a text, to explain what the engine's reader answered: which word stands where, which node
 //! and field comes from which words, which name is bad. It decides nothing.
+use std::collections::HashMap;
 
 /// Bytes of a text, from the first to behind the last.
 #[derive(Clone, Copy, Debug, PartialEq, Eq)]
@@ -50,7 +51,8 @@ pub struct Scan<'t> {
     /// The first name that is bad, and why.
     pub bad_name: Option<(Span, String)>,
     frames: Vec<Frame>,
-    definitions: Vec<Span>,
+    /// The names of the definitions so far, and where each stands first.
+    definitions: HashMap<&'t [u8], Span>,
     /// The names that are bound here, the nearest last, with the kind of node that reads each.
     bound: Vec<(Span, &'static str)>,
     main: Option<Span>,
@@ -59,19 +61,19 @@ pub struct Scan<'t> {
 const RESERVED: [&str; 10] = ["def", "sense", "rep", "if", "mux", "nbr", "nbr-range", "nbr-lag", "fold-hood*", "inf"];
 const OPERATORS: [&str; 9] = ["+", "-", "*", "/", "<", ">", ">=", "==", "!="];
 
-fn is_blank(byte: u8) -> bool {
+pub fn is_blank(byte: u8) -> bool {
     matches!(byte, b' ' | b'\n' | b'\r')
 }
 
-fn is_bracket(byte: u8) -> bool {
-    matches!(byte, b'(' | b')')
+/// Whether no word goes on at a byte.
+pub fn parts_words(byte: u8) -> bool {
+    is_blank(byte) || matches!(byte, b'(' | b')')
 }
 
 /// The bracket or word that stands at a byte or next behind it.
 pub fn next_token(text: &[u8], from: usize) -> Option<Span> {
     let start = from + text.get(from..)?.iter().position(|byte| !is_blank(*byte))?;
-    let ends = |byte: &u8| is_blank(*byte) || is_bracket(*byte);
-    let length = text[start..].iter().position(ends).unwrap_or(text.len() - start);
+    let length = text[start..].iter().position(|byte| parts_words(*byte)).unwrap_or(text.len() - start);
     Some(Span { start, end: start + length.max(1) })
 }
 
@@ -101,7 +103,7 @@ impl<'t> Scan<'t> {
             fields: vec![],
             bad_name: None,
             frames: vec![],
-            definitions: vec![],
+            definitions: HashMap::new(),
             bound: vec![],
             main: None,
         };
@@ -133,8 +135,11 @@ impl<'t> Scan<'t> {
         self.word(one) == self.word(two)
     }
 
-    fn bad(&mut self, span: Span, why: String) {
-        self.bad_name.get_or_insert((span, why));
+    /// Notes a bad name, if it is the first: the others are not looked at, as a text may have very many.
+    fn bad(&mut self, span: Span, why: impl FnOnce(&Self) -> String) {
+        if self.bad_name.is_none() {
+            self.bad_name = Some((span, why(self)));
+        }
     }
 
     fn open(&mut self, token: Span) {
@@ -155,7 +160,7 @@ impl<'t> Scan<'t> {
             }
             Role::Definition => {
                 self.fields.push(span);
-                self.definitions.push(frame.head);
+                self.definitions.entry(self.word(frame.head)).or_insert(frame.head);
                 self.bound.clear();
                 return;
             }
@@ -224,10 +229,11 @@ impl<'t> Scan<'t> {
 
     fn define(&mut self, token: Span) {
         self.not_reserved(token, "definition");
-        if let Some(first) = self.definitions.iter().copied().find(|name| self.same(*name, token)) {
-            let (line, column) = Lines::of(self.text).position(first.start);
-            let why = format!("{} is defined already, in line {line}, column {column}.", self.shown(token));
-            self.bad(token, why);
+        if let Some(first) = self.definitions.get(self.word(token)).copied() {
+            self.bad(token, |scan| {
+                let (line, column) = Lines::of(scan.text).position(first.start);
+                format!("{} is defined already, in line {line}, column {column}.", scan.shown(token))
+            });
         }
         if let Some(frame) = self.frames.last_mut() {
             frame.head = token;
@@ -238,7 +244,7 @@ impl<'t> Scan<'t> {
     fn parameter(&mut self, token: Span, first: usize) {
         self.not_reserved(token, "parameter");
         if self.bound[first..].iter().any(|(name, _)| self.same(*name, token)) {
-            self.bad(token, format!("the definition has the parameter {} twice.", self.shown(token)));
+            self.bad(token, |scan| format!("the definition has the parameter {} twice.", scan.shown(token)));
         }
         self.bound.push((token, "parameter"));
         self.part();
@@ -246,21 +252,25 @@ impl<'t> Scan<'t> {
 
     fn not_reserved(&mut self, token: Span, what: &str) {
         if RESERVED.iter().any(|word| word.as_bytes() == self.word(token)) {
-            self.bad(token, format!("{} is a word of the notation and cannot name a {what}.", self.shown(token)));
+            self.bad(token, |scan| {
+                format!("{} is a word of the notation and cannot name a {what}.", scan.shown(token))
+            });
         }
     }
 
     /// A head, or the function of a fold.
     fn known(&mut self, token: Span) {
-        if self.bad_name.is_some() || self.definitions.iter().any(|name| self.same(*name, token)) {
+        if self.definitions.contains_key(self.word(token)) {
             return;
         }
-        let itself = self.frames.iter().any(|frame| frame.role == Role::Definition && self.same(frame.head, token));
-        let why = match itself {
-            true => "a definition does not see itself; there is no recursion.",
-            false => "there is no definition of this name above.",
-        };
-        self.bad(token, format!("{}: {why}", self.shown(token)));
+        self.bad(token, |scan| {
+            let itself = |frame: &Frame| frame.role == Role::Definition && scan.same(frame.head, token);
+            let why = match scan.frames.iter().any(itself) {
+                true => "a definition does not see itself; there is no recursion.",
+                false => "there is no definition of this name above.",
+            };
+            format!("{}: {why}", scan.shown(token))
+        });
     }
 
     fn leaf(&mut self, token: Span) {
@@ -269,11 +279,11 @@ impl<'t> Scan<'t> {
         let bound = || self.bound.iter().rfind(|(name, _)| self.same(*name, token));
         let kind = if is_number { Some("constant") } else { bound().map(|(_, kind)| *kind) };
         if kind.is_none() {
-            let why = match self.definitions.iter().any(|name| self.same(*name, token)) {
+            let why = match self.definitions.contains_key(word) {
                 true => "is a definition: a call of it stands in brackets.",
                 false => "is no parameter here, and no variable of a rep whose update this is.",
             };
-            self.bad(token, format!("{} {why}", self.shown(token)));
+            self.bad(token, |scan| format!("{} {why}", scan.shown(token)));
         }
         let kind = kind.unwrap_or("name");
         self.node(token, kind);
@@ -290,6 +300,12 @@ impl<'t> Scan<'t> {
     /// Whether the last word is a bracket whose head comes next.
     pub fn at_head(&self) -> bool {
         matches!(self.frames.last(), Some(Frame { role: Role::New, .. }))
+    }
+
+    /// Whether a head or the function of a fold comes next: an operator may stand there, and no number.
+    pub fn at_function(&self) -> bool {
+        self.at_head()
+            || matches!(self.frames.last(), Some(Frame { role: Role::Form { kind: "fold", .. }, met: 0, .. }))
     }
 
     /// What must or may stand next, in words.
@@ -313,7 +329,7 @@ impl<'t> Scan<'t> {
             (Role::Definition, 1) => "the parameters stand in brackets, also where there is one or none",
             (Role::Definition, 2) => "here stands the definition's body",
             (Role::Definition, _) => "a definition has one body, and a bracket closes it",
-            (Role::Parameters, 4) => "a definition has at most 4 parameters",
+            (Role::Parameters, 4) => "a definition has at most 4 parameters, and a bracket closes them",
             (Role::Parameters, _) => "here stands a parameter's name or the closing bracket",
             (Role::Form { kind, parts }, met) => return wanted_in(&self.shown(frame.head), kind, parts, met),
             (Role::Call, _) => "here stands an operand or the closing bracket",

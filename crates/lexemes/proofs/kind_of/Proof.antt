@@ -1,32 +1,32 @@
 -- `lexemes::kind_of` meets its contract. Assumes nothing.
 use mathlib.Core.Path.{sym}
 use borrow.Author.Tests.{ne-eqb}
-use Rattle.notation.specs.Text.{sort}
+use Rattle.notation.specs.Text.{byteKind}
 use Rattle.lexemes.proofs.kind_of.Statement.{statement}
 use Rattle.lexemes.proofs.kind_of.Tie as tie
 
 returns : tie.Need-returns
-unfolding sort
+unfolding byteKind
 returns c = sym (rw (c .match .keys1))
 
 returns-2 : tie.Need-returns-2
-unfolding sort
+unfolding byteKind
 returns-2 c = sym (rw (c .match .keys2))
 
 returns-3 : tie.Need-returns-3
-unfolding sort
+unfolding byteKind
 returns-3 c = sym (rw (c .match .keys3))
 
 returns-4 : tie.Need-returns-4
-unfolding sort
+unfolding byteKind
 returns-4 c = sym (rw (c .match .keys4))
 
 returns-5 : tie.Need-returns-5
-unfolding sort
+unfolding byteKind
 returns-5 c = sym (rw (c .match .keys5))
 
 returns-6 : tie.Need-returns-6
-unfolding sort
+unfolding byteKind
 returns-6 c = let h = c .match .rest in sym (rw (
   ne-eqb (c .before .args .b) 32 (h .0 .0 .0 .0 .1),
   ne-eqb (c .before .args .b) 10 (h .0 .0 .0 .1),
