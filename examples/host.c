@@ -97,22 +97,6 @@ static void drives_off(void) {
     }
 }
 
-// 2 goes off duty: it forgets all, and the others forget it, their links too. When it comes back, links are given anew.
-static void goes_off_duty(void) {
-    event(cuddystove_add_leave(&list, 2));
-    printf("vehicle 2 is off duty, its presence %s;", text(network[cuddystove_at_presence(2)]));
-    printf(" vehicle 1 has no link to it: %s\n", text(network[cuddystove_at_distance(1, 2)]));
-    event(cuddystove_add_fire(&list, 2)); // 21: it is gone
-    event(cuddystove_add_return(&list, 2));
-    event(cuddystove_add_return(&list, 2)); // 22: it is there already
-    printf("vehicle 2 fires: %s,", text(event(cuddystove_add_fire(&list, 2))));
-    event(cuddystove_add_link(&list, 1, 2, 40));
-    event(cuddystove_add_link(&list, 2, 1, 40));
-    event(cuddystove_add_fire(&list, 1));
-    deliver_all(1);
-    printf(" and %s when 1 is linked and heard again\n", text(event(cuddystove_add_fire(&list, 2))));
-}
-
 // A whole list at the office: two numbers an event.
 static void run(void) {
     int32_t answers[8];
@@ -156,7 +140,6 @@ int main(void) {
     printf(" at age %s\n", text(network[cuddystove_at_age(3, 2)]));
     event(cuddystove_add_deliver(&list, 2, 1)); // nothing is pending any more: 16
     drives_off();
-    goes_off_duty();
     run();
     return 0;
 }

@@ -1,7 +1,6 @@
 // Sixteen tablets, each with a network and a log of its own, against the office's one network. The tablets do a shift: rounds, messages by
-// radio, some of them lost, links that change, a vehicle that gets stuck, one that leaves and returns. Then the office joins the sixteen
-// logs, which share no clock, and runs the list on one network: every answer, and every cell of each vehicle's own block, ages and
-// presence too, is what the tablet had.
+// radio, some of them lost, links that change, a vehicle that gets stuck. Then the office joins the sixteen logs, which share no clock,
+// and runs the list on one network: every answer, and every cell of each vehicle's own block, ages too, is what the tablet had.
 // Build: gcc -std=c99 -Iinclude examples/tablets.c target/staticlib/libcuddystove.a -o tablets
 // Run: ./tablets examples/shift-of-sixteen/program.pf. It prints examples/tablets.expected. With one of two words after it a tablet once does
 // what hosts must not do, and the office finds out: `late` takes an older message behind a newer one, `lost` logs a loss after the next round.
@@ -43,7 +42,7 @@ static struct message {
 static uint8_t bytes[CUDDYSTOVE_LONGEST_EVENT];
 static struct cuddystove_list event = {bytes, sizeof bytes, 0};
 
-static int received, lost, unheard, underway, faults, faded, thrown, from_gone;
+static int received, lost, unheard, underway, faults, faded;
 
 static void stop(const char *why) {
     printf("%s\n", why);
@@ -66,9 +65,6 @@ static struct entry *does(int a, size_t written) {
     event.length = 0;
     return e;
 }
-
-// Is vehicle a on duty, as its own tablet has it?
-static int is_present(int a) { return tablets[a].network[cuddystove_at_presence(a)] == 1; }
 
 // How many others tablet a has heard whose message has not faded.
 static int hears(int a) {
@@ -99,7 +95,6 @@ static void fires(int a) {
 static void receives(int b, struct message *m) {
     if (cuddystove_put(tablets[b].network, CUDDYSTOVE_CELLS, m->bytes, m->length) == 0 || m->bytes[1] != b) stop("no message for it");
     does(b, cuddystove_add_deliver(&event, m->bytes[0], m->bytes[1]))->count = m->count;
-    from_gone += !is_present(m->bytes[0]);
     m->length = 0;
     received++;
 }
@@ -110,17 +105,6 @@ static void hears_of_loss(int a, struct message *m) {
     does(a, cuddystove_add_lose(&event, m->bytes[0], m->bytes[1]));
     m->length = 0;
     lost++;
-}
-
-// Vehicle a leaves or returns. That is everybody's event: each tablet does it on its own network and logs it, here all at the same time.
-// What is on its way to one that leaves is thrown away; what it has sent can still arrive.
-static void everybody(int a, int is_leave) {
-    for (int b = 1; b <= FLEET; b++) {
-        does(b, is_leave ? cuddystove_add_leave(&event, a) : cuddystove_add_return(&event, a));
-        if (!is_leave || air[b][a].length == 0) continue;
-        air[b][a].length = 0;
-        thrown++;
-    }
 }
 
 // ---- The shift
@@ -142,35 +126,16 @@ static void radio(int a) {
     }
 }
 
-// Four rows of four, 10 apart: do a and b stand side by side?
-static int is_beside(int a, int b) { return abs(a - b) == ROW || (abs(a - b) == 1 && (a - 1) / ROW == (b - 1) / ROW); }
-
-// Crew 1 is free. Each tablet does its own vehicle's links.
+// Four rows of four, 10 apart; crew 1 is free. Each tablet does its own vehicle's links.
 static void drive_up(void) {
     for (int a = 1; a <= FLEET; a++) {
         look(cuddystove_fresh(tablets[a].network, CUDDYSTOVE_CELLS));
-        for (int b = 1; b <= FLEET; b++) {
-            if (is_beside(a, b)) does(a, cuddystove_add_link(&event, a, b, 10));
-        }
+        if (a % ROW != 0) does(a, cuddystove_add_link(&event, a, a + 1, 10));
+        if (a % ROW != 1) does(a, cuddystove_add_link(&event, a, a - 1, 10));
+        if (a + ROW <= FLEET) does(a, cuddystove_add_link(&event, a, a + ROW, 10));
+        if (a > ROW) does(a, cuddystove_add_link(&event, a, a - ROW, 10));
     }
     does(1, cuddystove_add_signal(&event, 1, 1, 1));
-}
-
-// 11 goes off duty in the middle of a sweep, while messages of 10 and its own are on their way, and comes back three sweeps later: all its
-// links, and those to it, are given anew.
-static void off_duty(int sweep) {
-    if (sweep == 6) {
-        fires(10);
-        fires(11);
-        everybody(11, 1);
-    }
-    if (sweep != 9) return;
-    everybody(11, 0);
-    for (int b = 1; b <= FLEET; b++) {
-        if (!is_beside(11, b)) continue;
-        does(11, cuddystove_add_link(&event, 11, b, 10));
-        does(b, cuddystove_add_link(&event, b, 11, 10));
-    }
 }
 
 // What happens between two sweeps: refused events too.
@@ -200,8 +165,7 @@ static void do_shift(const char *word) {
         incident(sweep);
         for (int k = 0; k < FLEET; k++) {
             const int a = (7 * k + sweep) % FLEET + 1; // an order of its own each time
-            if (k == FLEET / 2) off_duty(sweep);
-            if (is_present(a)) fires(a); // else 21
+            fires(a);
             if (a == 5 && sweep == 8) misdeed(word);
             if (chance(4) > 0) radio(a);
         }
@@ -215,44 +179,26 @@ static uint8_t joined_bytes[FLEET * LOG * CUDDYSTOVE_LONGEST_EVENT];
 static struct cuddystove_list joined = {joined_bytes, sizeof joined_bytes, 0};
 static const struct entry *order[FLEET * LOG]; // where each event of the list comes from
 static int32_t office[CUDDYSTOVE_CELLS], answers[2 * FLEET * LOG];
-static int events, taken;              // of the list; of the logs
+static int events;
 static int next[FLEET + 1];            // the first entry of each log that is not in the list yet
 static int fired[FLEET + 1];           // fires of each device in the list
 static int owed[FLEET + 1][LOG + 1];   // receipts of a's k-th message that are not in the list
 
-// A departure or a return: it stands in every log, and once in the list.
-static int is_everybodys(const struct entry *e) { return e->bytes[0] == CUDDYSTOVE_TAG_LEAVE || e->bytes[0] == CUDDYSTOVE_TAG_RETURN; }
-
 // May tablet a's next entry follow in the list? A receipt stands behind the fire that sent the message and before the sender's next.
 static int may_follow(int a) {
     const struct entry *e = &tablets[a].log[next[a]];
-    if (next[a] == tablets[a].entries || is_everybodys(e)) return 0;
+    if (next[a] == tablets[a].entries) return 0;
     if (e->bytes[0] == CUDDYSTOVE_TAG_FIRE) return owed[a][fired[a]] == 0;
     return e->bytes[0] != CUDDYSTOVE_TAG_DELIVER || fired[e->bytes[3]] == e->count;
 }
 
 static void follow(int a) {
     const struct entry *e = &tablets[a].log[next[a]++];
-    taken++;
     memcpy(joined.bytes + joined.length, e->bytes, e->length);
     joined.length += e->length;
     order[events++] = e;
     fired[a] += e->bytes[0] == CUDDYSTOVE_TAG_FIRE;
     if (e->bytes[0] == CUDDYSTOVE_TAG_DELIVER) owed[e->bytes[3]][e->count]--;
-}
-
-// All logs have come to the same departure or return, and all tablets had the same answer to it: it follows, once.
-static void follow_all(void) {
-    const struct entry *e = &tablets[1].log[next[1]];
-    for (int a = 1; a <= FLEET; a++) {
-        const struct entry *own = &tablets[a].log[next[a]];
-        if (next[a] == tablets[a].entries || !is_everybodys(own) || memcmp(own->bytes, e->bytes, e->length) != 0) {
-            stop("the logs contradict each other: no entry may follow");
-        }
-        if (memcmp(own->answer, e->answer, sizeof e->answer) != 0) stop("two tablets answered a departure or return in two ways");
-    }
-    follow(1);
-    for (int a = 2; a <= FLEET; a++) next[a]++, taken++;
 }
 
 // One list of all logs, each log in its own order; where several may follow, the lowest device.
@@ -265,15 +211,15 @@ static void join(void) {
         }
         all += tablets[b].entries;
     }
-    while (taken < all) {
+    while (events < all) {
         int a = 1;
         while (a <= FLEET && !may_follow(a)) a++;
-        if (a <= FLEET) follow(a);
-        else follow_all();
+        if (a > FLEET) stop("the logs contradict each other: no entry may follow");
+        follow(a);
     }
 }
 
-// Is vehicle a's block the same, and who is present? What is still on its way is put back first.
+// Is vehicle a's block the same? What is still on its way is put back first.
 static int block_is_same(int a) {
     const size_t first = cuddystove_at_block(a);
     if (first == CUDDYSTOVE_NO_CELL) return 0;
@@ -281,7 +227,6 @@ static int block_is_same(int a) {
         struct message *m = &air[a][b];
         if (m->length != 0 && cuddystove_put(tablets[a].network, CUDDYSTOVE_CELLS, m->bytes, m->length) == 0) stop("no message");
         underway += m->length != 0;
-        if (tablets[a].network[cuddystove_at_presence(b)] != office[cuddystove_at_presence(b)]) return 0;
     }
     return memcmp(tablets[a].network + first, office + first, CUDDYSTOVE_BLOCK * sizeof office[0]) == 0;
 }
@@ -316,7 +261,6 @@ int main(int count, char **words) {
     printf("%d events: %d messages received, %d lost, %d never heard of, %d still on their way; %d rounds faulted\n", events, received,
            lost, unheard, underway, faults);
     printf("%d messages faded: three rounds of the hearer without a newer one\n", faded);
-    printf("when vehicle 11 left, messages to it were thrown away: %d; of its own, received after that: %d\n", thrown, from_gone);
     printf("all answers and the blocks of all %d vehicles are the office's\n", FLEET);
     for (int a = 1; a <= FLEET; a++) {
         printf("%" PRId32 "%s", office[cuddystove_at_variable(a, 0)], a % ROW == 0 ? "\n" : " ");

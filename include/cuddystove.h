@@ -22,8 +22,8 @@
 #include <stddef.h>
 #include <stdint.h>
 
-#define CUDDYSTOVE_VERSION "0.5.0"    // of this header and its library; a change of cells, bytes or answers raises the middle number
-#define CUDDYSTOVE_VERSION_NUMBER 500 // the same to compare: 10,000, 100 and 1 times its numbers
+#define CUDDYSTOVE_VERSION "0.4.0"    // of this header and its library; a change of cells, bytes or answers raises the middle number
+#define CUDDYSTOVE_VERSION_NUMBER 400 // the same to compare: 10,000, 100 and 1 times its numbers
 
 // A result that must be looked at: the compiler warns where it is dropped (gcc also where it is cast to void).
 #if defined(__cplusplus) && __cplusplus >= 201703L
@@ -71,8 +71,8 @@ struct cuddystove_verdict cuddystove_check(const uint8_t *program, size_t progra
 CUDDYSTOVE_LOOK
 struct cuddystove_verdict cuddystove_read_text(const uint8_t *text, size_t text_length, uint8_t *table, size_t table_length);
 
-// Makes a network fresh, whatever it held: sensors and pending marks 0, every device present, all other cells absent. 11 and place 0,
-// with nothing written, if its length is not CUDDYSTOVE_CELLS.
+// Makes a network fresh, whatever it held: sensors and pending marks 0, all other cells absent. 11 and place 0, with nothing
+// written, if its length is not CUDDYSTOVE_CELLS.
 CUDDYSTOVE_LOOK
 struct cuddystove_verdict cuddystove_fresh(int32_t *network, size_t network_length);
 
@@ -85,7 +85,7 @@ struct cuddystove_verdict cuddystove_event(const uint8_t *program, size_t progra
 
 // Does every event of a list from first to last, each on the network that the one before left; the list may be empty. After 0 and 0
 // the numbers 2 k and 2 k + 1 of space are the answer to event k, counted from 0; the rest of space is as before. An event that is
-// refused (14 to 17, 21, 22) changes nothing but its answer, and the run goes on. Space has at least two numbers an event, else 13.
+// refused (14 to 17) changes nothing but its answer, and the run goes on. Space has at least two numbers an event, else 13.
 CUDDYSTOVE_LOOK
 struct cuddystove_verdict cuddystove_run(const uint8_t *program, size_t program_length, int32_t *network, size_t network_length,
                                          const uint8_t *list, size_t list_length, int32_t *space, size_t space_length);
@@ -108,40 +108,30 @@ struct cuddystove_verdicts cuddystove_run_both(const uint8_t *program, size_t pr
 #define CUDDYSTOVE_FLOOR (-INT32_MAX) // floor, the least number: -2,147,483,647
 #define CUDDYSTOVE_INF INT32_MAX      // inf, the largest number: 2,147,483,647
 
-// ---- A network: 16 blocks of 546 cells, one for each device. Devices a, b are 1 to 16.
+// ---- A network: 16 blocks of 545 cells, one for each device. Devices a, b are 1 to 16.
 
-#define CUDDYSTOVE_DEVICES 16         // of a network, numbered 1 to 16
-#define CUDDYSTOVE_BLOCK 546          // cells of a device's block
-#define CUDDYSTOVE_CELLS 8736         // cells of a network, 16 blocks: the only length that a network may have
-#define CUDDYSTOVE_VARIABLES 16       // of a device, 0 to 15
-#define CUDDYSTOVE_SENSORS 16         // of a device, 0 to 15
-#define CUDDYSTOVE_ROW 16             // cells of a heard or pending row: 0, then slots 1 to 15
-#define CUDDYSTOVE_FIRST_SENSORS 16   // where in a block the sensors' cell stands,
-#define CUDDYSTOVE_FIRST_HEARD 17     // the first heard row, that for device 1,
-#define CUDDYSTOVE_FIRST_PENDING 273  // the first pending row, that for device 1,
-#define CUDDYSTOVE_FIRST_AGE 529      // the first age, that for device 1,
-#define CUDDYSTOVE_FIRST_PRESENCE 545 // and the cell that says whether the device is present
-#define CUDDYSTOVE_FARTHEST 1000000   // the largest distance
-#define CUDDYSTOVE_OLDEST 2           // the largest age
+#define CUDDYSTOVE_DEVICES 16        // of a network, numbered 1 to 16
+#define CUDDYSTOVE_BLOCK 545         // cells of a device's block
+#define CUDDYSTOVE_CELLS 8720        // cells of a network, 16 blocks: the only length that a network may have
+#define CUDDYSTOVE_VARIABLES 16      // of a device, 0 to 15
+#define CUDDYSTOVE_SENSORS 16        // of a device, 0 to 15
+#define CUDDYSTOVE_ROW 16            // cells of a heard or pending row: 0, then slots 1 to 15
+#define CUDDYSTOVE_FIRST_SENSORS 16  // where in a block the sensors' cell stands,
+#define CUDDYSTOVE_FIRST_HEARD 17    // the first heard row, that for device 1,
+#define CUDDYSTOVE_FIRST_PENDING 273 // the first pending row, that for device 1,
+#define CUDDYSTOVE_FIRST_AGE 529     // and the first age, that for device 1
+#define CUDDYSTOVE_FARTHEST 1000000  // the largest distance
+#define CUDDYSTOVE_OLDEST 2          // the largest age
 
 // What stands in which cell: below, at the functions that give a cell's index. A host reads cells as it likes, and writes none but by
 // cuddystove_take and cuddystove_put. (A test that writes heard slots itself writes an age beside them, else 11 names the age's cell.)
 //
 // What is heard fades. A delivery, of an empty message too, sets the hearer's age for that sender to 0. Each round that the hearer
 // completes adds 1 to all its ages, after it has read. An age that would become 3 becomes absent instead, and with it slots 1 to 15
-// heard from that sender; the distance stays. So three rounds read a message, and the fourth no longer. Rounds are counted, not time.
-// Of other events a departure alone (below) changes an age, which becomes absent: neither a round that divides by 0 (17) does so, nor a
-// loss, a link, a signal, a return or a refused event.
-//
-// Devices leave and come back. A device that leaves (0x15) forgets all, its links too, and is forgotten: its own cells are as when fresh,
-// but for messages pending from it, which stay and can still be delivered or lost; every other device forgets its link to it, what it
-// heard from it and its age for it; messages pending to it are thrown away. While it is gone its own cells are sound only so: one that
-// holds more is the cell that 11 names. (What others hold of it is free, and pending messages and the presence cells have their own
-// rules.) An event that names a gone device is refused (21), but for its return, and for a delivery or loss from it to a present one. A
-// return (0x16) makes it present and changes no other cell, so its links, and those to it, are given anew. To bring back a device that
-// is present is refused (22). Both events clash with every event: an order of a list keeps every other event on its side of them.
+// heard from that sender; the distance stays. So three rounds read a message, and the fourth no longer. Rounds are counted, not time:
+// nothing else changes an age, neither a round that divides by 0 (17) nor a loss, a link, a signal or a refused event.
 
-// ---- Refusals. Returned: 1 to 13, 19 and 20. In answers: 14 to 17, 21 and 22. Of ./replay alone: 18.
+// ---- Refusals. Returned: 1 to 13, 19 and 20. In answers: 14 to 17. Of ./replay alone: 18.
 
 // The number of a verdict, and the first number of an answer.
 enum cuddystove_refusal {
@@ -156,7 +146,7 @@ enum cuddystove_refusal {
     CUDDYSTOVE_MISREAD = 8,          // A node reads a parameter that its tree does not have, or a variable outside its rep's update.
     CUDDYSTOVE_MISUSED = 9,          // A node calls a spatial definition a second time, or folds by one that may not fold.
     CUDDYSTOVE_TOO_COSTLY = 10,      // A round of the program costs more than 1,000,000.
-    CUDDYSTOVE_UNSOUND = 11,         // The network is not 8,736 cells long (place 0), or a cell holds what it may not.
+    CUDDYSTOVE_UNSOUND = 11,         // The network is not 8,720 cells long (place 0), or a cell holds what it may not.
     CUDDYSTOVE_BAD_LIST = 12,        // An event of the list is of unknown tag, of the wrong length, cut short, missing or one too many.
     CUDDYSTOVE_SHORT_SPACE = 13,     // The answer space is shorter than two numbers an event, or the table's slice than the table.
     CUDDYSTOVE_BAD_ITEM = 14,        // A device, sensor, switch or distance of the event is out of range.
@@ -165,17 +155,14 @@ enum cuddystove_refusal {
     CUDDYSTOVE_DIVIDED_BY_0 = 17,    // The round divided by 0, and the fire changed nothing.
     CUDDYSTOVE_BAD_FILE = 18,        // A file of the replay is absent, cannot be read or has more than 4,096 bytes.
     CUDDYSTOVE_OUTSIDE = 19,         // The text is outside the notation: no program is written so.
-    CUDDYSTOVE_BAD_NAME = 20,        // A name of the text is unresolved, repeated or reserved.
-    CUDDYSTOVE_GONE_DEVICE = 21,     // The event names a device that is gone.
-    CUDDYSTOVE_PRESENT_DEVICE = 22   // The event brings back a device that is present.
+    CUDDYSTOVE_BAD_NAME = 20         // A name of the text is unresolved, repeated or reserved.
 };
 // The place of 1 to 5 and 12 is the number of whole fields before the bad one, that of 7 to 9 the lowest offending node, that of 11
 // the lowest offending cell, that of 19 how many bytes of the text, from its first on, are shared with a text of the notation (what is
 // wrong stands there, or just before); all others have place 0. With number 0 the place of cuddystove_read_text is the table's length.
-// 11 with place 0 is a wrong length, or cell 0, variable 0 of device 1, which is gone: the length that was passed tells which.
 //
 // An answer is two numbers: 0 and the value (that of a fire; 0 for other events), or the refusal and 0, or 17 and the node that
-// divided. An event is tested for 14, 15, 21, 22 and 16, in this order.
+// divided.
 
 // ---- A program table: fields of a tag byte, two bytes of length (high byte first) and a body.
 
@@ -194,9 +181,7 @@ enum cuddystove_tag {
     CUDDYSTOVE_TAG_DELIVER = 0x11, // list: a, b. The message pending from a to b arrives.
     CUDDYSTOVE_TAG_LOSE = 0x12,    // list: a, b. The message pending from a to b goes.
     CUDDYSTOVE_TAG_LINK = 0x13,    // list: a, b, distance in four bytes, high byte first; the mark ends the link.
-    CUDDYSTOVE_TAG_SIGNAL = 0x14,  // list: a, sensor 0 to 15, 1 for lit or 0.
-    CUDDYSTOVE_TAG_LEAVE = 0x15,   // list: a. Device a leaves: it forgets all and is forgotten.
-    CUDDYSTOVE_TAG_RETURN = 0x16   // list: a. Device a comes back.
+    CUDDYSTOVE_TAG_SIGNAL = 0x14   // list: a, sensor 0 to 15, 1 for lit or 0.
 };
 
 // The first byte of a node, the bytes after it, and what the node gives. Operands are numbers of nodes. A field, a map from some
@@ -244,9 +229,9 @@ static inline const char *cuddystove_name(int64_t number) {
         "done",     "bad field",            "too many", "out of range",       "not given",       "taken",
         "bad end",  "wrong sort",           "misread",  "misused definition", "too costly",      "unsound network",
         "bad list", "short space",          "bad item", "to itself",          "nothing pending", "divided by 0",
-        "bad file", "outside the notation", "bad name", "gone device",        "present device",
+        "bad file", "outside the notation", "bad name",
     };
-    return number >= 0 && number <= CUDDYSTOVE_PRESENT_DEVICE ? names[number] : "unknown refusal";
+    return number >= 0 && number <= CUDDYSTOVE_BAD_NAME ? names[number] : "unknown refusal";
 }
 
 // What a refusal means, in a sentence for people: the comments of enum cuddystove_refusal.
@@ -263,7 +248,7 @@ static inline const char *cuddystove_sentence(int64_t number) {
     case CUDDYSTOVE_MISREAD: return "A node reads a parameter that its tree does not have, or a variable outside its rep's update.";
     case CUDDYSTOVE_MISUSED: return "A node calls a spatial definition a second time, or folds by one that may not fold.";
     case CUDDYSTOVE_TOO_COSTLY: return "A round of the program costs more than 1,000,000.";
-    case CUDDYSTOVE_UNSOUND: return "The network is not 8,736 cells long (place 0), or a cell holds what it may not.";
+    case CUDDYSTOVE_UNSOUND: return "The network is not 8,720 cells long (place 0), or a cell holds what it may not.";
     case CUDDYSTOVE_BAD_LIST: return "An event of the list is of unknown tag, of the wrong length, cut short, missing or one too many.";
     case CUDDYSTOVE_SHORT_SPACE: return "The answer space is shorter than two numbers an event, or the table's slice than the table.";
     case CUDDYSTOVE_BAD_ITEM: return "A device, sensor, switch or distance of the event is out of range.";
@@ -273,14 +258,12 @@ static inline const char *cuddystove_sentence(int64_t number) {
     case CUDDYSTOVE_BAD_FILE: return "A file of the replay is absent, cannot be read or has more than 4,096 bytes.";
     case CUDDYSTOVE_OUTSIDE: return "The text is outside the notation: no program is written so.";
     case CUDDYSTOVE_BAD_NAME: return "A name of the text is unresolved, repeated or reserved.";
-    case CUDDYSTOVE_GONE_DEVICE: return "The event names a device that is gone.";
-    case CUDDYSTOVE_PRESENT_DEVICE: return "The event brings back a device that is present.";
     default: return "No refusal of the engine has this number.";
     }
 }
 
 // What the place of a returned refusal counts, from 0: a field of the program, a node, a cell, an event, a byte of the text (of one that
-// only lacks its end, that behind its last); "" where it has none, and for 11 with place 0, which is a wrong length or cell 0 (above).
+// only lacks its end, that behind its last); "" where it has none, as 11 has none for a network of a wrong length.
 static inline const char *cuddystove_counted(int64_t number, size_t place) {
     if (number >= CUDDYSTOVE_BAD_FIELD && number <= CUDDYSTOVE_TAKEN) return "field of the program";
     if (number >= CUDDYSTOVE_WRONG_SORT && number <= CUDDYSTOVE_MISUSED) return "node";
@@ -340,12 +323,6 @@ CUDDYSTOVE_LOOK
 static inline size_t cuddystove_at_age(int64_t a, int64_t b) {
     if (!cuddystove_within(a, 1, CUDDYSTOVE_DEVICES) || !cuddystove_within(b, 1, CUDDYSTOVE_DEVICES)) return CUDDYSTOVE_NO_CELL;
     return cuddystove_at_block(a) + CUDDYSTOVE_FIRST_AGE + CUDDYSTOVE_AS(size_t, b - 1);
-}
-// 1 if a is present, 0 if it is gone.
-CUDDYSTOVE_LOOK
-static inline size_t cuddystove_at_presence(int64_t a) {
-    if (!cuddystove_within(a, 1, CUDDYSTOVE_DEVICES)) return CUDDYSTOVE_NO_CELL;
-    return cuddystove_at_block(a) + CUDDYSTOVE_FIRST_PRESENCE;
 }
 // 1 if a message is pending from a to b, else 0.
 CUDDYSTOVE_LOOK
@@ -426,17 +403,6 @@ static inline size_t cuddystove_add_signal(struct cuddystove_list *list, int64_t
     const int64_t items[] = {a, sensor, lit};
     return cuddystove_add(list, CUDDYSTOVE_TAG_SIGNAL, items, 3);
 }
-// Device a leaves: its variables, links, sensors, what it heard and the ages are as when fresh, messages to it are thrown away, and all
-// others forget what they heard from it, its age and their link to it. What is pending from it stays. To be done on every tablet (below).
-CUDDYSTOVE_LOOK
-static inline size_t cuddystove_add_leave(struct cuddystove_list *list, int64_t a) {
-    return cuddystove_add(list, CUDDYSTOVE_TAG_LEAVE, &a, 1);
-}
-// Device a comes back, with nothing but what is still pending from it; links are given anew. To be done on every tablet (below).
-CUDDYSTOVE_LOOK
-static inline size_t cuddystove_add_return(struct cuddystove_list *list, int64_t a) {
-    return cuddystove_add(list, CUDDYSTOVE_TAG_RETURN, &a, 1);
-}
 
 // ---- Messages between tablets. Each tablet has a network of its own and does its own device's events on it. The way of a message
 // from tablet a to tablet b:
@@ -449,10 +415,6 @@ static inline size_t cuddystove_add_return(struct cuddystove_list *list, int64_t
 // What the hosts see to: a message arrives as it was sent, once, and before its sender's next fire, or is thrown away (a later one
 // is gone in the office's network); send along how often a has fired, rounds that faulted too, and log it with the receipt, so that
 // the office can set the delivery between the right two fires. A message is logged as received or as lost, not as both.
-// A departure or a return is everybody's event: each tablet does and logs it, all of them in one order, those that it lacks before its
-// next event once it hears from a tablet that has done them (send along how many; docs/MANUAL.md, 11). So the presence cells of all
-// networks agree, and the office takes one of sixteen where each log has come to it. Messages to a device that leaves are thrown away
-// for good, also those that reach it after its return; those from it can still arrive.
 // Proved (demand 3): any two orders of all the tablets' events that keep clashing events in order give the office equal networks
 // and answers. Not proved, and tried by examples/tablets.c: that tablet a has in its own block, but for the pending rows, and answers,
 // what the office's one network has and answers; it follows from what each event reads and writes (docs/MANUAL.md, 11).
@@ -464,8 +426,7 @@ static inline size_t cuddystove_add_return(struct cuddystove_list *list, int64_t
 
 // Takes the message pending from a to b out of the network: its bytes are in message, and it is no longer pending. Gives how many they
 // are, 4 to 64; 0, with nothing written, where none is pending, where there are no such two devices, where the network is not
-// CUDDYSTOVE_CELLS long, and where room is less than CUDDYSTOVE_LONGEST_MESSAGE. Presence does not matter: what is pending from a gone
-// device can be taken, and sent, too.
+// CUDDYSTOVE_CELLS long, and where room is less than CUDDYSTOVE_LONGEST_MESSAGE.
 CUDDYSTOVE_LOOK
 static inline size_t cuddystove_take(int32_t *network, size_t network_length, int64_t a, int64_t b, uint8_t *message, size_t room) {
     const size_t row = cuddystove_at_is_pending(a, b);
@@ -510,14 +471,12 @@ static inline int cuddystove_is_message(const uint8_t *message, size_t message_l
 }
 
 // Puts a message that was received, as cuddystove_take gave it, into the network as pending from message[0] to message[1], in place of
-// what may be pending there. Gives message_length; 0, with nothing written, for bytes that cuddystove_take never gives, where the
-// network is not CUDDYSTOVE_CELLS long, and where message[1] is not present in it: that departure has thrown the message away, and neither
-// a receipt nor a loss of it would be done (21). The sender may be gone.
+// what may be pending there. Gives message_length; 0, with nothing written, for bytes that cuddystove_take never gives, and where the
+// network is not CUDDYSTOVE_CELLS long.
 CUDDYSTOVE_LOOK
 static inline size_t cuddystove_put(int32_t *network, size_t network_length, const uint8_t *message, size_t message_length) {
     size_t row, length = 4, i;
     if (network_length != CUDDYSTOVE_CELLS || !cuddystove_is_message(message, message_length)) return 0;
-    if (network[cuddystove_at_presence(message[1])] != 1) return 0;
     row = cuddystove_at_is_pending(message[0], message[1]);
     network[row] = 1;
     for (i = 1; i < CUDDYSTOVE_ROW; i++) {

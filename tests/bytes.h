@@ -6,5 +6,3 @@
 #define LOSE(a, b) CUDDYSTOVE_TAG_LOSE, 0, 2, (uint8_t)(a), (uint8_t)(b)
 #define LINK(a, b, distance) CUDDYSTOVE_TAG_LINK, 0, 6, (uint8_t)(a), (uint8_t)(b), BYTES(distance)
 #define SIGNAL(a, sensor, lit) CUDDYSTOVE_TAG_SIGNAL, 0, 3, (uint8_t)(a), (uint8_t)(sensor), (uint8_t)(lit)
-#define LEAVE(a) CUDDYSTOVE_TAG_LEAVE, 0, 1, (uint8_t)(a)
-#define RETURN(a) CUDDYSTOVE_TAG_RETURN, 0, 1, (uint8_t)(a)

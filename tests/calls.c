@@ -1,7 +1,7 @@
-// Every call on accepted and refused inputs, each refusal but 18, rounds with every kind of node, ages and lags, devices that leave and
-// return, texts. Each slice lies against a page that cannot be touched, once at its end and once at its start, and what a call only reads
-// cannot be written: a stray access ends this program. It uses no heap and no stdio, so that valgrind counts the library's own
-// allocations. Prints the cases that failed and 'N passed, M failed'.
+// Every call on accepted and refused inputs, each refusal but 18, rounds with every kind of node, ages and lags, texts. Each slice lies
+// against a page that cannot be touched, once at its end and once at its start, and what a call only reads cannot be written: a stray
+// access ends this program. It uses no heap and no stdio, so that valgrind counts the library's own allocations. Prints the cases that
+// failed and 'N passed, M failed'.
 #define _GNU_SOURCE
 #include "cuddystove.h"
 #include "bytes.h"
@@ -113,7 +113,6 @@ static void fresh(size_t space_now) {
     for (int i = 0; i <= CUDDYSTOVE_CELLS; i++) network[i] = CUDDYSTOVE_MARK;
     for (int a = 1; a <= CUDDYSTOVE_DEVICES; a++) {
         network[cuddystove_at_sensors(a)] = 0;
-        network[cuddystove_at_presence(a)] = 1;
         for (int b = 1; b <= CUDDYSTOVE_DEVICES; b++) network[cuddystove_at_is_pending(a, b)] = 0;
     }
     for (int i = 0; i < SPACE_ROOM; i++) space[i] = UNTOUCHED;
@@ -486,73 +485,12 @@ static void networks_of_ages(void) {
         expect("an age without a slot", RUN, EMPTY, 0, 0);
         expect("an age without a slot", BOTH, EMPTY, 0, 0);
     }
-    // As long as a network was without ages, and without presence.
-    for (size_t length = 8464; length <= 8720; length += 256) {
-        fresh(2);
-        network_length = length;
-        refused_call("fresh of an older length", FRESH, EMPTY, 11, 0);
-        refused_call("run on an older length", RUN, EMPTY, 11, 0);
-    }
-}
-// Each cell of a gone device's block with a 1: its own are named, whatever they may hold in a present one; its pending ones have their
-// own rules, by which a message without slots may be pending to another.
-static void each_cell_of_gone(int a) {
-    const size_t block = cuddystove_at_block(a);
-    for (size_t i = 0; i < CUDDYSTOVE_FIRST_PRESENCE; i++) {
-        const int is_message = i >= CUDDYSTOVE_FIRST_PENDING && i < CUDDYSTOVE_FIRST_AGE &&
-                               (i - CUDDYSTOVE_FIRST_PENDING) % CUDDYSTOVE_ROW == 0 &&
-                               (i - CUDDYSTOVE_FIRST_PENDING) / CUDDYSTOVE_ROW + 1 != (size_t)a;
-        fresh(2);
-        network[cuddystove_at_presence(a)] = 0;
-        network[block + i] = 1;
-        refused_call("a cell of a gone device", RUN, EMPTY, is_message ? 0 : 11, is_message ? 0 : block + i);
-    }
-}
-// 11 with place 0 both ways: variable 0 of a gone device 1, and a wrong length, which comes first.
-static void cell_0(void) {
+    // As long as a network was without ages.
     fresh(2);
-    network[cuddystove_at_presence(1)] = 0;
-    network[cuddystove_at_variable(1, 0)] = 0;
-    refused_call("cell 0", EVENT, LIST(RETURN(1)), 11, 0);
-    refused_call("cell 0", RUN, LIST(RETURN(1)), 11, 0);
-    refused_call("cell 0", BOTH, EMPTY, 11, 0);
-    network_length = CUDDYSTOVE_CELLS - 1;
-    refused_call("cell 0, and a wrong length", RUN, EMPTY, 11, 0);
-    network_length = CUDDYSTOVE_CELLS;
-    network[cuddystove_at_variable(1, 0)] = CUDDYSTOVE_MARK;
-    network[cuddystove_at_variable(1, 1)] = 0;
-    refused_call("cell 1", RUN, EMPTY, 11, 1);
-    network[cuddystove_at_presence(1)] = 1;
-    network[cuddystove_at_variable(1, 0)] = 0;
-    same();
-    expect("cell 0 of a present one", RUN, EMPTY, 0, 0);
+    network_length = 8464;
+    refused_call("fresh without ages", FRESH, EMPTY, 11, 0);
+    refused_call("run without ages", RUN, EMPTY, 11, 0);
 }
-// Presence is 0 or 1. Of a gone device the own cell is named, not its presence.
-static void networks_of_gone(void) {
-    PROGRAM_IS(counter);
-    for (int a = 1; a <= CUDDYSTOVE_DEVICES; a++) refused_cell(cuddystove_at_presence(a), a % 2 == 0 ? 2 : -1);
-    refused_cell(cuddystove_at_presence(16), CUDDYSTOVE_MARK);
-    refused_cell(cuddystove_at_presence(1), CUDDYSTOVE_INF);
-    for (int a = 1; a <= CUDDYSTOVE_DEVICES; a += 5) each_cell_of_gone(a);
-    fresh(2);
-    for (int a = 1; a <= CUDDYSTOVE_DEVICES; a++) network[cuddystove_at_presence(a)] = 0;
-    same();
-    expect("all are gone", RUN, EMPTY, 0, 0);
-    // Sound in a present device: a variable, a slot with its age. The lowest cell is named.
-    fresh(2);
-    network[cuddystove_at_heard(9, 2, 15)] = 5;
-    network[cuddystove_at_age(9, 2)] = 0;
-    same();
-    expect("heard by a present one", RUN, EMPTY, 0, 0);
-    network[cuddystove_at_presence(9)] = 0;
-    refused_call("heard by a gone one", RUN, EMPTY, 11, cuddystove_at_heard(9, 2, 15));
-    network[cuddystove_at_variable(9, 15)] = CUDDYSTOVE_FLOOR;
-    refused_call("a variable of a gone one before it", EVENT, LIST(FIRE(1)), 11, cuddystove_at_variable(9, 15));
-    network[cuddystove_at_presence(8)] = 2;
-    refused_call("the presence of the one before it", BOTH, EMPTY, 11, cuddystove_at_presence(8));
-    cell_0();
-}
-
 // The lowest cell is named: an age stands behind the pending rows of its device and before the next device.
 static void lowest_of_ages(void) {
     const size_t age = cuddystove_at_age(9, 2);
@@ -579,15 +517,7 @@ static void lists(void) {
     fresh(4);
     refused_call("12, no event", EVENT, EMPTY, 12, 0);
     refused_call("12, a byte after the event", EVENT, LIST(FIRE(1), 0), 12, 1);
-    refused_call("12, unknown tag", EVENT, LIST(0x17, 0, 1, 1), 12, 0);
-    refused_call("12, unknown tag", RUN, LIST(LEAVE(1), 0x17, 0, 3, 1, 0, 1), 12, 1);
-    refused_call("12, leave of nobody", EVENT, LIST(CUDDYSTOVE_TAG_LEAVE, 0, 0), 12, 0);
-    refused_call("12, leave of two", RUN, LIST(LEAVE(1), CUDDYSTOVE_TAG_LEAVE, 0, 2, 1, 2), 12, 1);
-    refused_call("12, return of nobody", RUN, LIST(LEAVE(1), CUDDYSTOVE_TAG_RETURN, 0, 0), 12, 1);
-    refused_call("12, return of two", EVENT, LIST(CUDDYSTOVE_TAG_RETURN, 0, 2, 1, 2), 12, 0);
-    refused_call("12, return cut short", BOTH, LIST(LEAVE(1), CUDDYSTOVE_TAG_RETURN, 0, 1), 12, 1);
-    refused_call("12, a byte after a leave", EVENT, LIST(LEAVE(1), 0), 12, 1);
-    refused_call("12, length 257", RUN, LIST(CUDDYSTOVE_TAG_LEAVE, 1, 1, 1), 12, 0);
+    refused_call("12, unknown tag", EVENT, LIST(0x15, 0, 1, 1), 12, 0);
     refused_call("12, cut short", RUN, LIST(FIRE(1), 0x10), 12, 1);
     refused_call("12, wrong length", RUN, LIST(FIRE(1), FIRE(2), 0x10, 0, 2, 1, 1), 12, 2);
     refused_call("12", BOTH, LIST(FIRE(1), 0x10, 0), 12, 1);
@@ -1214,202 +1144,6 @@ static void lag_in_branches(void) {
     fires("a lag of 2 divides", 6, 3);
 }
 
-// ---- Devices that leave and come back
-
-// Every device has variables, lit sensors, links to all others, their messages heard at ages 0 to 2, and messages pending to them.
-static void crowded(void) {
-    fresh(2);
-    for (int a = 1; a <= CUDDYSTOVE_DEVICES; a++) {
-        for (int v = 0; v < CUDDYSTOVE_VARIABLES; v++) network[cuddystove_at_variable(a, v)] = 100 * a + v;
-        network[cuddystove_at_sensors(a)] = 0xffff >> (a - 1);
-        for (int b = 1; b <= CUDDYSTOVE_DEVICES; b++) {
-            for (int i = 1; b != a && i < CUDDYSTOVE_ROW; i++) {
-                heard(a, b, i, 1000 * a + 20 * b + i);
-                network[there(cuddystove_at_pending(a, b, i))] = -(1000 * a + 20 * b + i);
-            }
-            if (b == a) continue;
-            linked(a, b, 16 * a + b);
-            network[cuddystove_at_age(a, b)] = (a + b) % 3;
-            network[cuddystove_at_is_pending(a, b)] = 1;
-        }
-    }
-    same();
-}
-// Device a leaves: it forgets all but its messages to others, and all forget it.
-static void departs(const char *what, int a) {
-    for (int v = 0; v < CUDDYSTOVE_VARIABLES; v++) after[cuddystove_at_variable(a, v)] = CUDDYSTOVE_MARK;
-    after[cuddystove_at_sensors(a)] = 0;
-    for (int b = 1; b <= CUDDYSTOVE_DEVICES; b++) {
-        for (int i = 0; i < CUDDYSTOVE_ROW; i++) {
-            leaves(cuddystove_at_row(a, CUDDYSTOVE_FIRST_HEARD, b, i), CUDDYSTOVE_MARK);
-            leaves(cuddystove_at_row(b, CUDDYSTOVE_FIRST_HEARD, a, i), CUDDYSTOVE_MARK);
-            leaves(cuddystove_at_row(b, CUDDYSTOVE_FIRST_PENDING, a, i), i == 0 ? 0 : CUDDYSTOVE_MARK);
-        }
-        leaves(cuddystove_at_age(a, b), CUDDYSTOVE_MARK);
-        leaves(cuddystove_at_age(b, a), CUDDYSTOVE_MARK);
-    }
-    after[cuddystove_at_presence(a)] = 0;
-    one_event(what, LIST(LEAVE(a)), 0, 0);
-}
-static void comes_back(const char *what, int a) {
-    after[cuddystove_at_presence(a)] = 1;
-    one_event(what, LIST(RETURN(a)), 0, 0);
-}
-// The message pending from a to b is lost.
-static void is_lost(const char *what, int a, int b) {
-    for (int i = 1; i < CUDDYSTOVE_ROW; i++) leaves(cuddystove_at_pending(a, b, i), CUDDYSTOVE_MARK);
-    after[cuddystove_at_is_pending(a, b)] = 0;
-    one_event(what, LIST(LOSE(a, b)), 0, 0);
-}
-
-// All cells of a departure and of a return, of the first device, the last and one between; from a fresh network too.
-static void departures(void) {
-    static const int devices[] = {9, 1, 16};
-    PROGRAM_IS(gossip);
-    crowded();
-    for (int i = 0; i < 3; i++) departs("one of all leaves", devices[i]);
-    comes_back("it returns with its messages alone", 9);
-    departs("and leaves again", 9);
-    for (int i = 0; i < 3; i++) comes_back("all return", devices[i]);
-    for (int i = 0; i < 3; i++) {
-        fresh(2);
-        leaves(cuddystove_at_presence(devices[i]), 0);
-        one_event("a fresh one leaves", LIST(LEAVE(devices[i])), 0, 0);
-        comes_back("a fresh one returns", devices[i]);
-    }
-}
-// 21 and 22 among the other refusals. 9 and 16 are gone, with messages pending from them.
-static void refused_of_gone(void) {
-    enum { GONE = CUDDYSTOVE_GONE_DEVICE, PRESENT = CUDDYSTOVE_PRESENT_DEVICE, BAD = CUDDYSTOVE_BAD_ITEM, ITSELF = CUDDYSTOVE_ITSELF };
-    PROGRAM_IS(divides);
-    crowded();
-    departs("9 leaves", 9);
-    departs("16 leaves", 16);
-    one_event("21: fire, before 17", LIST(FIRE(9)), GONE, 0);
-    one_event("21: signal", LIST(SIGNAL(16, 0, 1)), GONE, 0);
-    one_event("21: link from it", LIST(LINK(9, 1, 5)), GONE, 0);
-    one_event("21: link to it", LIST(LINK(1, 9, 5)), GONE, 0);
-    one_event("21: the end of a link to it", LIST(LINK(1, 16, CUDDYSTOVE_MARK)), GONE, 0);
-    one_event("21: link between two", LIST(LINK(16, 9, 5)), GONE, 0);
-    one_event("21: leave", LIST(LEAVE(9)), GONE, 0);
-    one_event("21: deliver to it, before 16", LIST(DELIVER(1, 9)), GONE, 0);
-    one_event("21: lose to it, before 16", LIST(LOSE(15, 16)), GONE, 0);
-    one_event("21: deliver between two", LIST(DELIVER(16, 9)), GONE, 0);
-    one_event("21: lose between two", LIST(LOSE(9, 16)), GONE, 0);
-    one_event("14 before 21: a sensor", LIST(SIGNAL(9, 16, 1)), BAD, 0);
-    one_event("14 before 21: a switch", LIST(SIGNAL(9, 0, 2)), BAD, 0);
-    one_event("14 before 21: a distance", LIST(LINK(9, 1, CUDDYSTOVE_FARTHEST + 1)), BAD, 0);
-    one_event("14 before 21: a device", LIST(DELIVER(17, 9)), BAD, 0);
-    one_event("15 before 21: deliver", LIST(DELIVER(9, 9)), ITSELF, 0);
-    one_event("15 before 21: lose", LIST(LOSE(16, 16)), ITSELF, 0);
-    one_event("15 before 21: link", LIST(LINK(9, 9, 5)), ITSELF, 0);
-    for (int a = 1; a <= CUDDYSTOVE_DEVICES; a++) {
-        if (a != 9 && a != 16) one_event("22", LIST(RETURN(a)), PRESENT, 0);
-    }
-    static const uint8_t none[] = {0, 17, 25, 32, 255};
-    for (size_t i = 0; i < sizeof none; i++) {
-        one_event("14: leave", LIST(LEAVE(none[i])), BAD, 0);
-        one_event("14: return, before 22", LIST(RETURN(none[i])), BAD, 0);
-    }
-    one_event("17 of a present one", LIST(FIRE(1)), CUDDYSTOVE_DIVIDED_BY_0, 2);
-}
-// What is pending from a gone device is delivered or lost as ever, while it is gone and after its return; 16 the second time.
-static void late_messages(void) {
-    PROGRAM_IS(gossip);
-    crowded();
-    departs("9 leaves", 9);
-    arrives("a late message arrives", 9, 2);
-    one_event("once", LIST(DELIVER(9, 2)), CUDDYSTOVE_NOTHING_PENDING, 0);
-    is_lost("a late message is lost", 9, 3);
-    one_event("once", LIST(LOSE(9, 3)), CUDDYSTOVE_NOTHING_PENDING, 0);
-    // 2 reads it in three rounds: 9 is heard, and has no link from 2.
-    for (int round = 0; round < 3; round++) {
-        int32_t sum = 100;
-        for (int b = 1; b <= CUDDYSTOVE_DEVICES; b++) {
-            const int32_t slot = b == 2 ? CUDDYSTOVE_MARK : network[there(cuddystove_at_heard(2, b, 3))];
-            if (slot != CUDDYSTOVE_MARK) sum += slot;
-        }
-        message(2), sends(2, 3, 5);
-        fires("a round that reads it", 2, sum);
-        judge("no message goes to it", network[cuddystove_at_is_pending(2, 9)] == 0 && network[cuddystove_at_is_pending(2, 8)] == 1);
-    }
-    comes_back("9 returns", 9);
-    arrives("a message from before arrives after the return", 9, 4);
-    is_lost("another is lost", 9, 5);
-    message(9);
-    fires("its round hears nobody, sends nothing, and takes back what was pending", 9, 100);
-    one_event("so it is gone", LIST(DELIVER(9, 6)), CUDDYSTOVE_NOTHING_PENDING, 0);
-}
-// Sound networks in which others hold a link to a gone one, its row, and a message to it: no list makes them from fresh.
-static void held_of_gone(void) {
-    PROGRAM_IS(gossip);
-    fresh(2);
-    network[cuddystove_at_presence(9)] = 0;
-    linked(2, 9, 40);
-    heard(2, 9, 3, 7);
-    network[cuddystove_at_is_pending(2, 9)] = 1;
-    same();
-    message(2), sends(2, 3, 5);
-    fires("a round that reads a gone one and sends to it", 2, 107);
-    one_event("21, a message pending", LIST(DELIVER(2, 9)), CUDDYSTOVE_GONE_DEVICE, 0);
-    one_event("21, a message pending", LIST(LOSE(2, 9)), CUDDYSTOVE_GONE_DEVICE, 0);
-    comes_back("9 returns", 9);
-    arrives("it arrives after the return", 2, 9);
-    departs("9 leaves", 9);
-}
-
-// A shift: 2 leaves with a message pending from it and one to it, the others carry on, it returns, is linked again and heard again.
-#define BEFORE1 LINK(1, 2, 40), LINK(2, 1, 40), LINK(1, 3, 30), LINK(3, 1, 30), FIRE(1), FIRE(2), DELIVER(1, 3)
-#define BEFORE2 LINK(3, 1, 30), LINK(2, 1, 40), FIRE(2), LINK(1, 3, 30), LINK(1, 2, 40), FIRE(1), DELIVER(1, 3)
-#define GONE1 FIRE(2), DELIVER(1, 2), DELIVER(2, 1), FIRE(1), FIRE(3)
-#define GONE2 FIRE(3), FIRE(2), DELIVER(2, 1), DELIVER(1, 2), FIRE(1)
-#define AFTER1 FIRE(2), LINK(2, 1, 40), LINK(1, 2, 40), FIRE(1), DELIVER(1, 2), FIRE(2)
-#define AFTER2 LINK(1, 2, 40), FIRE(1), FIRE(2), LINK(2, 1, 40), DELIVER(1, 2), FIRE(2)
-static void after_the_shift(void) {
-    static const struct { int a, b; int32_t distance, age, sent; } last[] = {
-        {1, 2, 40, 2, 0}, {2, 1, 40, 1, 1}, {1, 3, 30, CUDDYSTOVE_MARK, 1}, {3, 1, 30, 1, 1}};
-    fresh(40);
-    for (int i = 0; i < 4; i++) {
-        const int a = last[i].a, b = last[i].b;
-        leaves(cuddystove_at_distance(a, b), last[i].distance);
-        leaves(cuddystove_at_age(a, b), last[i].age);
-        leaves(cuddystove_at_heard(a, b, 3), last[i].age == CUDDYSTOVE_MARK ? CUDDYSTOVE_MARK : 5);
-        leaves(cuddystove_at_is_pending(a, b), last[i].sent);
-        leaves(cuddystove_at_pending(a, b, 3), last[i].sent ? 5 : CUDDYSTOVE_MARK);
-    }
-}
-static void shift_of_gone(void) {
-    static const uint8_t one[] = {BEFORE1, LEAVE(2), GONE1, RETURN(2), RETURN(2), AFTER1};
-    static const uint8_t two[] = {BEFORE2, LEAVE(2), GONE2, RETURN(2), RETURN(2), AFTER2};
-    static const int32_t answers1[] = {0, 0, 0, 0, 0, 0, 0, 0, 0, 100, 0, 100, 0, 0, 0, 0, 21, 0, 21, 0, 0, 0, 0, 105, 0, 105,
-                                       0, 0, 22, 0, 0, 100, 0, 0, 0, 0, 0, 105, 0, 0, 0, 105};
-    static const int32_t answers2[] = {0, 0, 0, 0, 0, 100, 0, 0, 0, 0, 0, 100, 0, 0, 0, 0, 0, 105, 21, 0, 0, 0, 21, 0, 0, 105,
-                                       0, 0, 22, 0, 0, 0, 0, 105, 0, 100, 0, 0, 0, 0, 0, 105};
-    enum { COUNT = sizeof answers1 / sizeof answers1[0] };
-    PROGRAM_IS(gossip);
-    after_the_shift();
-    space_length = COUNT + 1;
-    memcpy(answered, answers2, sizeof answers2);
-    expect("a shift with a departure, in another order", RUN, two, sizeof two, 0, 0);
-    memcpy(answered, answers1, sizeof answers1);
-    expect("a shift with a departure", RUN, one, sizeof one, 0, 0);
-    expect("a shift with a departure", BOTH, one, sizeof one, 0, 0);
-    int32_t *n1 = lend(NETWORK, network, 4 * CUDDYSTOVE_CELLS, LAST), *n2 = lend(NETWORK2, network, 4 * CUDDYSTOVE_CELLS, LAST);
-    int32_t *s1 = lend(SPACE, space, sizeof answers1, LAST), *s2 = lend(SPACE2, space, sizeof answers2, LAST);
-    struct cuddystove_verdicts v = cuddystove_run_both(gossip, sizeof gossip, n1, CUDDYSTOVE_CELLS, n2, CUDDYSTOVE_CELLS, one, sizeof one,
-                                                       two, sizeof two, s1, COUNT, s2, COUNT);
-    judge("a departure in two orders", v.number1 == 0 && v.number2 == 0 && memcmp(n1, after, 4 * CUDDYSTOVE_CELLS) == 0 &&
-                                           memcmp(n2, after, 4 * CUDDYSTOVE_CELLS) == 0 && memcmp(s1, answers1, sizeof answers1) == 0 &&
-                                           memcmp(s2, answers2, sizeof answers2) == 0);
-}
-static void leaves_and_returns(void) {
-    departures();
-    refused_of_gone();
-    late_messages();
-    held_of_gone();
-    shift_of_gone();
-}
-
 // The program is one operator on two constants.
 static void operate(uint8_t o, int32_t left, int32_t right) {
     const uint8_t bytes[] = {CONST(left), CONST(right), 1, 0, 4, CUDDYSTOVE_OPERATOR, o, 0, 1, MAIN(2)};
@@ -1698,7 +1432,6 @@ int main(void) {
     lag_costs_1();
     networks();
     networks_of_ages();
-    networks_of_gone();
     lowest_of_ages();
     lists();
     events();
@@ -1714,7 +1447,6 @@ int main(void) {
     lag_grows();
     lag_weighs();
     lag_in_branches();
-    leaves_and_returns();
     operators();
     texts();
     words_of_texts();

@@ -13,30 +13,28 @@ static_assert(offsetof(struct cuddystove_verdicts, number1) == 0 && offsetof(str
 static_assert(offsetof(struct cuddystove_verdicts, number2) == 16 && offsetof(struct cuddystove_verdicts, place2) == 24, "verdict 2");
 
 static_assert(CUDDYSTOVE_MARK == -2147483647 - 1 && CUDDYSTOVE_FLOOR == -2147483647 && CUDDYSTOVE_INF == 2147483647, "numbers");
-static_assert(CUDDYSTOVE_DEVICES == 16 && CUDDYSTOVE_BLOCK == 546 && CUDDYSTOVE_CELLS == 8736, "network");
+static_assert(CUDDYSTOVE_DEVICES == 16 && CUDDYSTOVE_BLOCK == 545 && CUDDYSTOVE_CELLS == 8720, "network");
 static_assert(CUDDYSTOVE_DEVICES * CUDDYSTOVE_BLOCK == CUDDYSTOVE_CELLS, "blocks");
 static_assert(CUDDYSTOVE_VARIABLES == 16 && CUDDYSTOVE_SENSORS == 16 && CUDDYSTOVE_ROW == 16, "counts");
 static_assert(CUDDYSTOVE_FARTHEST == 1000000 && CUDDYSTOVE_OLDEST == 2 && CUDDYSTOVE_LARGEST_COST == 1000000, "largest");
 static_assert(CUDDYSTOVE_NODES == 256 && CUDDYSTOVE_DEFINITIONS == 32 && CUDDYSTOVE_PARAMETERS == 4, "table");
 
 static_assert(CUDDYSTOVE_FIRST_SENSORS == 16 && CUDDYSTOVE_FIRST_HEARD == 17, "in a block");
-static_assert(CUDDYSTOVE_FIRST_PENDING == 273 && CUDDYSTOVE_FIRST_AGE == 529 && CUDDYSTOVE_FIRST_PRESENCE == 545, "further in a block");
-static_assert(CUDDYSTOVE_FIRST_AGE + CUDDYSTOVE_DEVICES == CUDDYSTOVE_FIRST_PRESENCE, "presence is behind the ages");
-static_assert(CUDDYSTOVE_FIRST_PRESENCE + 1 == CUDDYSTOVE_BLOCK, "and ends a block");
+static_assert(CUDDYSTOVE_FIRST_PENDING == 273 && CUDDYSTOVE_FIRST_AGE == 529, "further in a block");
+static_assert(CUDDYSTOVE_FIRST_AGE + CUDDYSTOVE_DEVICES == CUDDYSTOVE_BLOCK, "the ages end a block");
 static_assert(CUDDYSTOVE_NO_CELL == 0x1fffffff80000000 && CUDDYSTOVE_LONGEST_EVENT == 9 && CUDDYSTOVE_LONGEST_MESSAGE == 64, "for hosts");
-static_assert(CUDDYSTOVE_VERSION_NUMBER == 500, "version");
+static_assert(CUDDYSTOVE_VERSION_NUMBER == 400, "version");
 
 static_assert(CUDDYSTOVE_DONE == 0 && CUDDYSTOVE_BAD_FIELD == 1 && CUDDYSTOVE_TOO_MANY == 2 && CUDDYSTOVE_OUT_OF_RANGE == 3 &&
                   CUDDYSTOVE_NOT_GIVEN == 4 && CUDDYSTOVE_TAKEN == 5 && CUDDYSTOVE_BAD_END == 6 && CUDDYSTOVE_WRONG_SORT == 7 &&
                   CUDDYSTOVE_MISREAD == 8 && CUDDYSTOVE_MISUSED == 9 && CUDDYSTOVE_TOO_COSTLY == 10 && CUDDYSTOVE_UNSOUND == 11 &&
                   CUDDYSTOVE_BAD_LIST == 12 && CUDDYSTOVE_SHORT_SPACE == 13 && CUDDYSTOVE_BAD_ITEM == 14 &&
                   CUDDYSTOVE_ITSELF == 15 && CUDDYSTOVE_NOTHING_PENDING == 16 && CUDDYSTOVE_DIVIDED_BY_0 == 17 &&
-                  CUDDYSTOVE_BAD_FILE == 18 && CUDDYSTOVE_OUTSIDE == 19 && CUDDYSTOVE_BAD_NAME == 20 &&
-                  CUDDYSTOVE_GONE_DEVICE == 21 && CUDDYSTOVE_PRESENT_DEVICE == 22,
+                  CUDDYSTOVE_BAD_FILE == 18 && CUDDYSTOVE_OUTSIDE == 19 && CUDDYSTOVE_BAD_NAME == 20,
               "refusals");
 static_assert(CUDDYSTOVE_TAG_NODE == 1 && CUDDYSTOVE_TAG_DEFINITION == 2 && CUDDYSTOVE_TAG_MAIN == 3 && CUDDYSTOVE_TAG_FIRE == 0x10 &&
                   CUDDYSTOVE_TAG_DELIVER == 0x11 && CUDDYSTOVE_TAG_LOSE == 0x12 && CUDDYSTOVE_TAG_LINK == 0x13 &&
-                  CUDDYSTOVE_TAG_SIGNAL == 0x14 && CUDDYSTOVE_TAG_LEAVE == 0x15 && CUDDYSTOVE_TAG_RETURN == 0x16,
+                  CUDDYSTOVE_TAG_SIGNAL == 0x14,
               "tags");
 static_assert(CUDDYSTOVE_CONSTANT == 0 && CUDDYSTOVE_PARAMETER == 1 && CUDDYSTOVE_VARIABLE == 2 && CUDDYSTOVE_OPERATOR == 3 &&
                   CUDDYSTOVE_SENSE == 4 && CUDDYSTOVE_REP == 5 && CUDDYSTOVE_IF == 6 && CUDDYSTOVE_MUX == 7 &&

@@ -45,7 +45,7 @@ static int holds(const uint8_t *expected, size_t length) {
     }
     return list.length == BEFORE + length;
 }
-// An event by its word: f(a), d(a, b), l(a, b), k(a, b, c), u(a, b), s(a, b, c), g(a) for leave, r(a).
+// An event by its word: f(a), d(a, b), l(a, b), k(a, b, c), u(a, b), s(a, b, c).
 static size_t add(char what, int64_t a, int64_t b, int64_t c) {
     switch (what) {
     case 'f': return cuddystove_add_fire(&list, a);
@@ -53,8 +53,6 @@ static size_t add(char what, int64_t a, int64_t b, int64_t c) {
     case 'l': return cuddystove_add_lose(&list, a, b);
     case 'k': return cuddystove_add_link(&list, a, b, c);
     case 'u': return cuddystove_add_unlink(&list, a, b);
-    case 'g': return cuddystove_add_leave(&list, a);
-    case 'r': return cuddystove_add_return(&list, a);
     default: return cuddystove_add_signal(&list, a, b, c);
     }
 }
@@ -72,10 +70,6 @@ static const struct { char what; int64_t a, b, c; uint8_t length, bytes[CUDDYSTO
     {'s', 7, 15, 1, 6, {0x14, 0, 3, 7, 15, 1, 0, 0, 0}},
     {'s', 7, 0, 0, 6, {0x14, 0, 3, 7, 0, 0, 0, 0, 0}},
     {'s', 7, 16, 2, 6, {0x14, 0, 3, 7, 16, 2, 0, 0, 0}},
-    {'g', 3, 0, 0, 4, {0x15, 0, 1, 3, 0, 0, 0, 0, 0}},
-    {'g', 255, 0, 0, 4, {0x15, 0, 1, 255, 0, 0, 0, 0, 0}},
-    {'r', 16, 0, 0, 4, {0x16, 0, 1, 16, 0, 0, 0, 0, 0}},
-    {'r', 0, 0, 0, 4, {0x16, 0, 1, 0, 0, 0, 0, 0, 0}},
 };
 
 static void lists(void) {
@@ -105,14 +99,14 @@ static void lists(void) {
 }
 
 static void wrong_items(void) {
-    static const char kinds[] = "fgrdlkus"; // the first three have one item
+    static const char kinds[] = "fdlkus";
     size_t k, i;
     for (i = 0; i < FAR_OFF; i++) {
         const int64_t n = far_off[i];
         for (k = 0; kinds[k] != 0; k++) {
             start(20);
             judge("no byte for the first item", add(kinds[k], n, 1, 1) == 0 && holds(bytes, 0));
-            judge("no byte for the second item", k < 3 || (add(kinds[k], 1, n, 1) == 0 && holds(bytes, 0)));
+            judge("no byte for the second item", kinds[k] == 'f' || (add(kinds[k], 1, n, 1) == 0 && holds(bytes, 0)));
         }
         judge("no byte for the switch", add('s', 1, 1, n) == 0 && holds(bytes, 0));
     }
@@ -146,10 +140,10 @@ static void cells(void) {
     int64_t a, b, i;
     int good = 1;
     for (a = 1; a <= 16; a++) {
-        const int64_t block = 546 * (a - 1);
+        const int64_t block = 545 * (a - 1);
         good = good && cuddystove_at_block(a) == CUDDYSTOVE_AS(size_t, block);
         for (i = 0; i < 16; i++) good = good && is_cell(cuddystove_at_variable(a, i), block + i);
-        good = good && is_cell(cuddystove_at_sensors(a), block + 16) && is_cell(cuddystove_at_presence(a), block + 545);
+        good = good && is_cell(cuddystove_at_sensors(a), block + 16);
         for (b = 1; b <= 16; b++) {
             good = good && is_cell(cuddystove_at_distance(a, b), block + 17 + 16 * (b - 1));
             good = good && is_cell(cuddystove_at_is_pending(a, b), block + 273 + 16 * (b - 1));
@@ -160,7 +154,7 @@ static void cells(void) {
             }
         }
     }
-    judge("each cell where 01, L1 and L5 have it", good);
+    judge("each cell where 01 and L1 have it", good);
     for (i = 0; i < CUDDYSTOVE_CELLS; i++) good = good && seen[i] == 1;
     judge("each cell by one function", good);
 }
@@ -174,7 +168,7 @@ static int no_cell(int64_t device, int64_t variable, int64_t slot) {
            cuddystove_at_heard(1, device, 1) == none && cuddystove_at_heard(1, 2, slot) == none &&
            cuddystove_at_pending(device, 1, 1) == none && cuddystove_at_pending(1, device, 1) == none &&
            cuddystove_at_pending(1, 2, slot) == none && cuddystove_at_age(device, 1) == none && cuddystove_at_age(1, device) == none &&
-           cuddystove_at_age(device, device) == none && cuddystove_at_presence(device) == none;
+           cuddystove_at_age(device, device) == none;
 }
 static void no_cells(void) {
     size_t i;
@@ -317,26 +311,6 @@ static void puts_refuses(void) {
                                                      cuddystove_put(network, CUDDYSTOVE_CELLS, empty, 4) == 4 &&
                                                      network[cuddystove_at_pending(1, 2, 1)] == CUDDYSTOVE_MARK);
 }
-// Of gone devices: a put asks that the hearer be present, and not that the sender is; a take asks for neither.
-static void of_gone_devices(void) {
-    static const int32_t presence[][2] = {{1, 1}, {0, 1}, {1, 0}, {0, 0}, {1, 2}, {1, -1}, {1, CUDDYSTOVE_MARK}};
-    static const uint8_t bytes_of[] = {2, 9, 0, 2, 0, 0, 0, 5};
-    const size_t row = cuddystove_at_is_pending(2, 9), sender = cuddystove_at_presence(2), hearer = cuddystove_at_presence(9);
-    size_t i, put;
-    for (i = 0; i < sizeof presence / sizeof presence[0]; i++) {
-        const int is_present = presence[i][1] == 1;
-        fresh(network);
-        network[sender] = presence[i][0];
-        network[hearer] = presence[i][1];
-        memcpy(kept, network, sizeof kept);
-        put = cuddystove_put(network, CUDDYSTOVE_CELLS, bytes_of, sizeof bytes_of);
-        judge("put asks for the hearer's presence", put == (is_present ? sizeof bytes_of : 0) && (is_present || same(network, kept)));
-        network[row] = 1;
-        network[row + 1] = 5;
-        judge("take asks for no presence", cuddystove_take(network, CUDDYSTOVE_CELLS, 2, 9, message, MOST) == sizeof bytes_of &&
-                                               memcmp(message, bytes_of, sizeof bytes_of) == 0 && same(network, kept));
-    }
-}
 // (fold-hood* + 100 (nbr 5)), by slot 3
 static const uint8_t gossip[] = {1, 0, 5, 0, 0, 0, 0, 100, 1, 0, 5, 0, 0, 0, 0, 5, 1, 0, 3, 8, 3, 1, 1, 0, 4, 10, 0, 0, 2, 3, 0, 1, 3};
 // The value of the event that was just added, done on these cells; -1 where it was not done. The list is empty then.
@@ -376,47 +350,19 @@ static void between_tablets(void) {
     judge("it has faded", other[cuddystove_at_heard(9, 2, 3)] == CUDDYSTOVE_MARK);
     reads("a round without it", 100, CUDDYSTOVE_MARK);
 }
-// 9 leaves with a message under way to it and one from it. On both tablets: what it sent is still heard, what comes for it is thrown away,
-// and it is named no more; it returns as on the first day.
-static void leaves_and_returns(void) {
-    uint8_t from_9[CUDDYSTOVE_LONGEST_MESSAGE], to_9[CUDDYSTOVE_LONGEST_MESSAGE];
-    size_t from, to;
-    start(20);
-    list.length = 0;
-    fresh(network);
-    fresh(other);
-    judge("tablet 2 fires", does(network, add('k', 2, 9, 40)) == 0 && does(network, add('f', 2, 0, 0)) == 100);
-    judge("tablet 9 fires", does(other, add('k', 9, 2, 40)) == 0 && does(other, add('f', 9, 0, 0)) == 100);
-    to = cuddystove_take(network, CUDDYSTOVE_CELLS, 2, 9, to_9, MOST);
-    from = cuddystove_take(other, CUDDYSTOVE_CELLS, 9, 2, from_9, MOST);
-    judge("both tablets do the departure", does(network, add('g', 9, 0, 0)) == 0 && does(other, add('g', 9, 0, 0)) == 0);
-    fresh(kept);
-    kept[cuddystove_at_presence(9)] = 0;
-    judge("both have forgotten all", same(other, kept) && same(network, kept));
-    judge("what comes for it is thrown away", to == 8 && cuddystove_put(other, CUDDYSTOVE_CELLS, to_9, to) == 0 && same(other, kept));
-    judge("it does nothing", does(other, add('f', 9, 0, 0)) == -1 && does(other, add('g', 9, 0, 0)) == -1 && same(other, kept));
-    judge("no link to it", does(network, add('k', 2, 9, 40)) == -1 && same(network, kept));
-    judge("what it sent arrives", from == 8 && cuddystove_put(network, CUDDYSTOVE_CELLS, from_9, from) == 8);
-    judge("and is heard", does(network, add('d', 9, 2, 0)) == 0 && does(network, add('f', 2, 0, 0)) == 105);
-    judge("both tablets do the return", does(network, add('r', 9, 0, 0)) == 0 && does(other, add('r', 9, 0, 0)) == 0);
-    judge("it returns once", does(network, add('r', 9, 0, 0)) == -1 && does(other, add('r', 9, 0, 0)) == -1);
-    fresh(kept);
-    judge("it begins anew", same(other, kept) && does(other, add('k', 9, 2, 30)) == 0 && does(other, add('f', 9, 0, 0)) == 100);
-    judge("and sends again", cuddystove_take(other, CUDDYSTOVE_CELLS, 9, 2, from_9, MOST) == 8);
-}
 
 // ---- Refusals in words
 
 static const char *const names[] = {
     "done",    "bad field",          "too many",   "out of range",    "not given", "taken",              "bad end",  "wrong sort",
     "misread", "misused definition", "too costly", "unsound network", "bad list",  "short space",        "bad item", "to itself",
-    "nothing pending", "divided by 0", "bad file", "outside the notation", "bad name", "gone device", "present device",
+    "nothing pending", "divided by 0", "bad file", "outside the notation", "bad name",
 };
 static void words(void) {
     int64_t n, m;
     size_t i;
-    for (n = 0; n <= 22; n++) judge("the name", strcmp(cuddystove_name(n), names[n]) == 0);
-    for (n = -1; n <= 23; n++) {
+    for (n = 0; n <= 20; n++) judge("the name", strcmp(cuddystove_name(n), names[n]) == 0);
+    for (n = -1; n <= 21; n++) {
         const char *name = cuddystove_name(n), *sentence = cuddystove_sentence(n);
         const size_t length = strlen(sentence);
         judge("a name and a sentence", name[0] != 0 && length > 2 && sentence[length - 1] == '.');
@@ -426,10 +372,10 @@ static void words(void) {
     }
     for (i = 0; i < FAR_OFF; i++) {
         judge("unknown", strcmp(cuddystove_name(far_off[i]), "unknown refusal") == 0 && strcmp(cuddystove_counted(far_off[i], 1), "") == 0 &&
-                             strcmp(cuddystove_sentence(far_off[i]), cuddystove_sentence(23)) == 0);
+                             strcmp(cuddystove_sentence(far_off[i]), cuddystove_sentence(21)) == 0);
     }
-    judge("23 and -1", strcmp(cuddystove_name(23), "unknown refusal") == 0 && strcmp(cuddystove_name(-1), "unknown refusal") == 0);
-    for (n = -1; n <= 23; n++) {
+    judge("21 and -1", strcmp(cuddystove_name(21), "unknown refusal") == 0 && strcmp(cuddystove_name(-1), "unknown refusal") == 0);
+    for (n = -1; n <= 21; n++) {
         const char *expected = n >= 1 && n <= 5 ? "field of the program" : n >= 7 && n <= 9 ? "node" : n == 11 ? "cell" : n == 12 ? "event" :
                                n == 19 ? "byte of the text" : "";
         judge("what a place counts", strcmp(cuddystove_counted(n, 3), expected) == 0);
@@ -454,9 +400,7 @@ int main(void) {
     by_hand();
     takes();
     puts_refuses();
-    of_gone_devices();
     between_tablets();
-    leaves_and_returns();
     words();
     printf("%d passed, %d failed\n", passed, failed);
     return failed != 0;

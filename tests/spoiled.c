@@ -23,18 +23,6 @@ enum spoil {
     FADES_THE_DISTANCE,       // event: with the slots of a sender
     AGES_BEFORE_READING,      // event: a fire's nbr-lag gives what the ages are after it
     LAG_AS_RANGE,             // event: nbr-lag is nbr-range
-    LEAVE_DROPS_ITS_MESSAGES, // event: a departure throws away what is pending from the device too
-    LEAVE_KEEPS_MESSAGES,     // event: a departure leaves what is pending to the device
-    LEAVE_KEEPS_LINKS,        // event: the others keep their links to it
-    LEAVE_KEEPS_AGES,         // event: the others keep their ages for it, of empty messages then
-    RETURN_MAKES_FRESH,       // event: a return throws away what is pending from the device
-    RETURN_ANEW,              // event: to bring back a present device is done (0)
-    WRITES_WITH_21,           // event: one cell, where it answers 21
-    WRITES_WITH_22,           // event: one cell, where it answers 22
-    NOTHING_PENDING_FIRST,    // event: 16 before 21
-    GONE_SENDER_REFUSED,      // event: a delivery from a gone device gets 21
-    GONE_CELL_PASSES,         // run: a gone device's own cells may hold what a present one's may
-    PRESENCE_OFFENDS,         // run: 11 names the presence of a gone device, not its cell
     WRITES_BEYOND_SPACE,      // run
     WRITES_THE_PROGRAM,       // run: the byte that was there
     WRONG_PLACE,              // run: of a refusal
@@ -124,48 +112,6 @@ static const uint8_t *with_ranges(PROGRAM) {
     return changed;
 }
 
-// The message pending from a to b is as it was before, or, without `kept`, gone.
-static void spoil_message(int32_t *network, const int32_t *kept, int a, int b) {
-    const size_t row = cuddystove_at_is_pending(a, b);
-    for (size_t i = 0; i < CUDDYSTOVE_ROW; i++) network[row + i] = kept != NULL ? kept[row + i] : i == 0 ? 0 : CUDDYSTOVE_MARK;
-}
-// What a departure or a return of a, which was done, made of the cells that a and b have of each other, made wrong.
-static void spoil_departure(int32_t *network, const int32_t *kept, uint8_t tag, int a, int b) {
-    if (tag == CUDDYSTOVE_TAG_RETURN && SPOIL == RETURN_MAKES_FRESH) spoil_message(network, NULL, a, b);
-    if (tag != CUDDYSTOVE_TAG_LEAVE) return;
-    if (SPOIL == LEAVE_DROPS_ITS_MESSAGES) spoil_message(network, NULL, a, b);
-    if (SPOIL == LEAVE_KEEPS_MESSAGES) spoil_message(network, kept, b, a);
-    if (SPOIL == LEAVE_KEEPS_LINKS) network[cuddystove_at_distance(b, a)] = kept[cuddystove_at_distance(b, a)];
-    if (SPOIL == LEAVE_KEEPS_AGES) network[cuddystove_at_age(b, a)] = kept[cuddystove_at_age(b, a)];
-}
-// The answer to an event, and the network after it, made wrong where devices are gone.
-static void spoil_gone(int32_t *network, const int32_t *kept, const uint8_t *list, int32_t *answer) {
-    const int takes = list[0] == CUDDYSTOVE_TAG_DELIVER || list[0] == CUDDYSTOVE_TAG_LOSE;
-    const int is_done = answer[0] == CUDDYSTOVE_DONE;
-    if (SPOIL == RETURN_ANEW && answer[0] == CUDDYSTOVE_PRESENT_DEVICE) answer[0] = CUDDYSTOVE_DONE;
-    if (SPOIL == WRITES_WITH_21 && answer[0] == CUDDYSTOVE_GONE_DEVICE) network[cuddystove_at_variable(13, 11)] = 0;
-    if (SPOIL == WRITES_WITH_22 && answer[0] == CUDDYSTOVE_PRESENT_DEVICE) network[cuddystove_at_variable(13, 11)] = 0;
-    if (SPOIL == NOTHING_PENDING_FIRST && takes && answer[0] == CUDDYSTOVE_GONE_DEVICE &&
-        kept[cuddystove_at_is_pending(list[3], list[4])] == 0) {
-        answer[0] = CUDDYSTOVE_NOTHING_PENDING;
-    }
-    if (SPOIL == GONE_SENDER_REFUSED && is_done && list[0] == CUDDYSTOVE_TAG_DELIVER && kept[cuddystove_at_presence(list[3])] == 0) {
-        answer[0] = CUDDYSTOVE_GONE_DEVICE;
-        memcpy(network, kept, CUDDYSTOVE_CELLS * sizeof *network);
-    }
-    for (int b = 1; is_done && b <= CUDDYSTOVE_DEVICES; b++) {
-        if (b != list[3]) spoil_departure(network, kept, list[0], list[3], b);
-    }
-}
-// What is said of an unsound network, made wrong where the cell is one of a gone device.
-static struct cuddystove_verdict spoil_unsound(struct cuddystove_verdict v, const int32_t *network, size_t network_length) {
-    const size_t presence = v.place / CUDDYSTOVE_BLOCK * CUDDYSTOVE_BLOCK + CUDDYSTOVE_FIRST_PRESENCE;
-    if (v.number != CUDDYSTOVE_UNSOUND || network_length != CUDDYSTOVE_CELLS || network[presence] != 0) return v;
-    if (SPOIL == PRESENCE_OFFENDS) v.place = presence;
-    if (SPOIL == GONE_CELL_PASSES) v.number = CUDDYSTOVE_DONE, v.place = 0;
-    return v;
-}
-
 struct cuddystove_verdict __wrap_cuddystove_event(PROGRAM, REST) {
     static int32_t kept[CUDDYSTOVE_CELLS];
     const int whole = network_length == CUDDYSTOVE_CELLS;
@@ -184,7 +130,6 @@ struct cuddystove_verdict __wrap_cuddystove_event(PROGRAM, REST) {
     for (int a = 1; whole && v.number == 0 && a <= CUDDYSTOVE_DEVICES; a++) {
         for (int b = 1; b <= CUDDYSTOVE_DEVICES; b++) spoil_age(network, kept, a, b, list[0], space[0]);
     }
-    if (whole && v.number == 0) spoil_gone(network, kept, list, space);
     return v;
 }
 
@@ -194,7 +139,6 @@ struct cuddystove_verdict __wrap_cuddystove_run(PROGRAM, REST) {
     if (SPOIL == WRITES_BEYOND_SPACE) ((volatile int32_t *)space)[space_length] = 0;
     if (SPOIL == WRITES_THE_PROGRAM && program_length > 0) *(volatile uint8_t *)program = program[0];
     if (SPOIL == WRONG_PLACE && v.number != 0) v.place++;
-    v = spoil_unsound(v, network, network_length);
     if (SPOIL == USES_HEAP) {
         void *volatile block = malloc(16);
         free(block);

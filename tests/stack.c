@@ -23,7 +23,7 @@ static int nodes, definitions;
 static struct cuddystove_verdict verdict, other_verdict;
 static int32_t network[CUDDYSTOVE_CELLS], other_network[CUDDYSTOVE_CELLS];
 static int32_t answer[2], other_answer[2];
-static const uint8_t fire[] = {FIRE(1)}, leave[] = {LEAVE(1)};
+static const uint8_t fire[] = {FIRE(1)};
 static uint8_t text[LONG], table[4096];
 static size_t text_length;
 static size_t idle;
@@ -225,10 +225,6 @@ static void *event(void *unused) {
     verdict = cuddystove_event(program, length, network, CUDDYSTOVE_CELLS, fire, sizeof fire, answer, 2);
     return unused;
 }
-static void *departure(void *unused) {
-    verdict = cuddystove_event(program, length, network, CUDDYSTOVE_CELLS, leave, sizeof leave, answer, 2);
-    return unused;
-}
 static void *run(void *unused) {
     verdict = cuddystove_run(program, length, network, CUDDYSTOVE_CELLS, fire, sizeof fire, answer, 2);
     return unused;
@@ -353,7 +349,6 @@ int main(void) {
     chain(256);
     expect("check, a chain of 256 nodes", check, 0, 0, 0);
     expect("event, a chain of 256 nodes: senses", event, 0, 0, 1);
-    expect("event, a departure, the program as before", departure, 0, 0, 0);
     chain(257);
     expect("check, a chain of 257 nodes", check, 2, 256, 0);
     tower(32);

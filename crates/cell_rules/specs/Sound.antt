@@ -2,26 +2,15 @@
 use Rattle.std.specs.Prelude.{Bool, not, cond, ◌&&◌, ◌||◌, List, ℕ, suc, ◌+◌, ◌*◌, get_or, eqb, ℤ, pos}
 use Rattle.number.specs.Number.{mark, eq_z}
 use Rattle.network.specs.Cells.{row}
-use Rattle.network.specs.Network.{block_size, is_age, keeps_rules, is_gone, cell_sound}
+use Rattle.network.specs.Network.{block_size, is_age, cell_sound}
 
 -- the rows of a block: heard, pending, and that of the ages
 abbrev pub row_count : ℕ
 row_count = 33
 
--- the cells of the device after a others; whether it is gone
-abbrev pub cells_of : List ℤ → ℕ → List ℤ
-cells_of n a = row n (a * block_size) block_size
-
-abbrev pub gone_at : List ℤ → ℕ → Bool
-gone_at n a = is_gone (cells_of n a)
-
--- whether its cell j keeps the rules of every device
-unfoldable pub ruled_at : List ℤ → ℕ → ℕ → Bool
-ruled_at n a j = keeps_rules (suc a) (cells_of n a) j (get_or n (a * block_size + j) (pos 0))
-
--- and whether it is sound
+-- whether cell j of the device after a others is sound
 unfoldable pub sound_at : List ℤ → ℕ → ℕ → Bool
-sound_at n a j = cell_sound (suc a) (cells_of n a) j (get_or n (a * block_size + j) (pos 0))
+sound_at n a j = cell_sound (suc a) (row n (a * block_size) block_size) j (get_or n (a * block_size + j) (pos 0))
 
 -- the network's pending_sound, by the first cell of the row
 unfoldable pub pending_from : ℕ → ℤ → ℕ → ℕ → ℤ → Bool

@@ -2,47 +2,14 @@
 ghost use Rattle.std.specs.Prelude.{◌≡◌, suc, ◌+◌, ◌*◌, ◌≤◌, ◌<◌, length, eqb};
 ghost use Rattle.number.specs.Number.{mark, eq_z};
 ghost use Rattle.network.specs.Cells.{row};
-ghost use Rattle.network.specs.Network.{sensors_at, heard_at, presence_at, network_size, heard_sound, any_present};
-ghost use Rattle.cell_rules.specs.Sound.{row_count, gone_at, ruled_at, sound_at, pending_from, age_from};
+ghost use Rattle.network.specs.Network.{sensors_at, heard_at, network_size, heard_sound, any_present};
+ghost use Rattle.cell_rules.specs.Sound.{row_count, sound_at, pending_from, age_from};
 
-// Whether the device is gone: then its own cells must be as when fresh.
-fn is_gone(net: &[i32], device: usize) -> bool
+pub fn sensors_sound(net: &[i32], device: usize) -> bool
     requires { (length net.now ≡ network_size) × (device < 16) }
-    ensures { result ≡ gone_at net.now device }
-{
-    cells::same(net[device * layout::BLOCK + layout::PRESENCE], 0)
-}
-
-pub fn presence_sound(net: &[i32], device: usize) -> bool
-    requires { (length net.now ≡ network_size) × (device < 16) }
-    ensures { result ≡ sound_at net.now device presence_at }
-{
-    cells::in_range(net[device * layout::BLOCK + layout::PRESENCE], 1)
-}
-
-// The sensors by the rules of every device.
-pub fn sensors_in_range(net: &[i32], device: usize) -> bool
-    requires { (length net.now ≡ network_size) × (device < 16) }
-    ensures { result ≡ ruled_at net.now device sensors_at }
+    ensures { result ≡ sound_at net.now device sensors_at }
 {
     cells::in_range(net[device * layout::BLOCK + layout::SENSORS], 65535)
-}
-
-// A cell in front of the rows: a variable or the sensors.
-pub fn front_sound(net: &[i32], device: usize, place: usize) -> bool
-    requires { (length net.now ≡ network_size) × (device < 16) × (place < heard_at 1) }
-    ensures { result ≡ sound_at net.now device place }
-{
-    if place == layout::SENSORS {
-        if is_gone(net, device) {
-            return cells::same(net[device * layout::BLOCK + layout::SENSORS], 0);
-        }
-        return sensors_in_range(net, device);
-    }
-    if is_gone(net, device) {
-        return cells::same(net[device * layout::BLOCK + place], layout::MARK);
-    }
-    true
 }
 
 // Cell `slot` of the row heard from `sender`.
@@ -81,7 +48,7 @@ fn pending_sound(device: usize, to: usize, slot: usize, first: i32, x: i32) -> b
 }
 
 // 0 where x is absent, else 1: a number, so that many are joined by `|` with no branch.
-fn occupied(x: i32) -> u32
+fn presence(x: i32) -> u32
     ensures { eqb result 0 ≡ eq_z x mark }
 {
     if cells::same(x, layout::MARK) {
@@ -98,7 +65,7 @@ pub fn any_present(net: &[i32], at: usize) -> bool
     let mut any: u32 = 0;
     let mut i: usize = 0;
     while i < layout::SLOTS {
-        any = any | occupied(net[at + i]);
+        any = any | presence(net[at + i]);
         i += 1;
     }
     any != 0
@@ -117,10 +84,10 @@ fn age_sound(device: usize, sender: usize, heard: bool, x: i32) -> bool
     cells::in_range(x, layout::OLDEST)
 }
 
-// Cell `slot` of a row, by the rules of every device: rows 0 to 15 are heard from each sender, 16 to 31 are pending to each device, row 32 has the ages, in the order of the cells.
-fn cell_ruled(net: &[i32], device: usize, row: usize, slot: usize) -> bool
+// Cell `slot` of a row: rows 0 to 15 are heard from each sender, 16 to 31 are pending to each device, row 32 has the ages, in the order of the cells.
+pub fn cell_sound(net: &[i32], device: usize, row: usize, slot: usize) -> bool
     requires { (length net.now ≡ network_size) × (device < 16) × (row < row_count) × (slot < 16) }
-    ensures { result ≡ ruled_at net.now device (heard_at 1 + row * 16 + slot) }
+    ensures { result ≡ sound_at net.now device (heard_at 1 + row * 16 + slot) }
 {
     let at = device * layout::BLOCK + layout::HEARD + row * layout::ROW;
     let first = net[at];
@@ -136,24 +103,4 @@ fn cell_ruled(net: &[i32], device: usize, row: usize, slot: usize) -> bool
         device * layout::BLOCK + layout::HEARD + slot * layout::ROW + 1,
     );
     age_sound(device, slot, heard, x)
-}
-
-// Whether the cell is sound: a gone device's must be absent besides, but for its messages.
-pub fn cell_sound(net: &[i32], device: usize, row: usize, slot: usize) -> bool
-    requires { (length net.now ≡ network_size) × (device < 16) × (row < row_count) × (slot < 16) }
-    ensures { result ≡ sound_at net.now device (heard_at 1 + row * 16 + slot) }
-{
-    if !cell_ruled(net, device, row, slot) {
-        return false;
-    }
-    if row / layout::DEVICES == 1 {
-        return true;
-    }
-    if is_gone(net, device) {
-        return cells::same(
-            net[device * layout::BLOCK + layout::HEARD + row * layout::ROW + slot],
-            layout::MARK,
-        );
-    }
-    true
 }

@@ -2,8 +2,8 @@
 ghost use Rattle.std.specs.Prelude.{◌≡◌, ◌&&◌, ◌+◌, ◌≤◌, length, replicate, pos};
 ghost use Rattle.number.specs.Number.{mark, eq_z};
 ghost use Rattle.network.specs.Cells.{row, store};
-ghost use Rattle.network.specs.Network.{network_size, no_message, within, is_distance};
-ghost use Rattle.event.specs.Step.{is_device, sensors_of, heard_from, pending_to, age_of, presence_of, gone};
+ghost use Rattle.network.specs.Network.{no_message, within, is_distance};
+ghost use Rattle.event.specs.Step.{is_device, sensors_of, heard_from, pending_to, age_of};
 
 pub fn is_device(a: u8) -> bool
     ensures { result ≡ is_device a }
@@ -23,7 +23,7 @@ pub fn are_devices(a: u8, b: u8) -> bool
     is_device(b)
 }
 
-// The cell of a's sensors, the row that a heard from b, the row pending from a to b, the age of what a heard from b, and whether a is present.
+// The cell of a's sensors, the row that a heard from b, the row pending from a to b, and the age of what a heard from b.
 pub fn sensors_of(a: u8) -> usize
     requires { 1 ≤ a }
     ensures { result ≡ sensors_of a }
@@ -50,21 +50,6 @@ pub fn age_of(a: u8, b: u8) -> usize
     ensures { result ≡ age_of a b }
 {
     ((a as usize) - 1) * layout::BLOCK + (layout::AGES + ((b as usize) - 1))
-}
-
-pub fn presence_of(a: u8) -> usize
-    requires { 1 ≤ a }
-    ensures { result ≡ presence_of a }
-{
-    ((a as usize) - 1) * layout::BLOCK + layout::PRESENCE
-}
-
-// Whether device a is gone: a look at one cell.
-pub fn gone(net: &[i32], a: u8) -> bool
-    requires { (length net.now ≡ network_size) × (1 ≤ a) × (a ≤ 16) }
-    ensures { result ≡ gone net.now a }
-{
-    same(net[presence_of(a)], 0)
 }
 
 pub fn same(x: i32, y: i32) -> bool

@@ -1,19 +1,19 @@
--- Of two events that do not clash neither sets a cell that the other reads or sets, but for two signals of one device.
+-- Events that do not clash touch no common cell, but for two signals of one device.
 use mathlib.Core.Path.{◌≡◌, refl, sym, ap₂, ◌∙◌}
-use mathlib.Core.Logic.{◌⊎◌, inl, inr}
+use mathlib.Core.Logic.{inl, inr}
 use mathlib.Core.Bool.{true, false, cond, ◌&&◌, ◌||◌, or-true, true≢false}
 use Prim.Native.Nat.{ℕ, ◌+◌, ◌-◌, ◌/◌, ◌%◌, ◌≤◌, ◌<◌}
 use native.Mathlib.Omega.{arith}
 use lib.Dec.{eqb, leb, ltb}
 use lib.IntN.{ℤ}
 use borrow.Author.Tests.{eq-eqb, ne_eqb, lt-ltb, le-ltb, not-false}
-use Rattle.network.specs.Network.{heard_at, pending_at, age_at, presence_at, block_size, network_size, is_distance}
-use Rattle.event.specs.Event.{Event, fire, deliver, lose, link, signal, leave, come_back}
+use Rattle.network.specs.Network.{heard_at, pending_at, age_at, block_size, network_size, is_distance}
+use Rattle.event.specs.Event.{Event, fire, deliver, lose, link, signal}
 use Rattle.event.specs.Step.{sensors_of, is_device}
 use Rattle.decide.proofs.Picks.{both, neither}
 use Rattle.event.proofs.Devices.{Device, Pair, device, pair_of}
 use Rattle.clash.specs.Clash.{clash, clashes_with, concerns}
-use Rattle.clash.proofs.Touched.{Fits, Target, Asks, Sets, Reads}
+use Rattle.clash.proofs.Touched.{Fits, Reach, Touched}
 
 -- the two pairs are not the same
 pub not-both : (a b c d : ℕ) → (eqb a c && eqb b d) ≡ false → a ≡ c → b ≡ d → ⊥
@@ -26,8 +26,6 @@ Named (deliver a b) = Pair a b
 Named (lose a b) = Pair a b
 Named (link a b d) = Pair a b
 Named (signal a s v) = Device a
-Named (leave a) = Device a
-Named (come_back a) = Device a
 
 named : (e : Event) → Fits e → Named e
 named (fire a) h = device a (not-false (is_device a) h)
@@ -36,8 +34,6 @@ named (lose a b) h = pair_of a b (not-false (is_device a && is_device b) h)
 named (link a b d) h = pair_of a b (both (is_device a && is_device b) (is_distance d) (not-false (is_device a && is_device b && is_distance d) h)).0
 named (signal a s v) h =
     device a (both (is_device a) (leb s 15) (both (is_device a && leb s 15) (leb v 1) (not-false (is_device a && leb s 15 && leb v 1) h)).0).0
-named (leave a) h = device a (not-false (is_device a) h)
-named (come_back a) h = device a (not-false (is_device a) h)
 
 pub sensors-inside : (a s v : ℕ) → Fits (signal a s v) → sensors_of a < network_size
 sensors-inside a s v h = omega (arith, named (signal a s v) h)
@@ -56,7 +52,7 @@ part_of j =
     (cond (ltb j (pending_at 1)) (cond (eqb ((j - heard_at 1) % 16) 0) (distance ((j - heard_at 1) / 16 + 1)) (heard ((j - heard_at 1) / 16 + 1)))
     (cond (ltb j (age_at 1)) (pending ((j - pending_at 1) / 16 + 1)) (age (j - age_at 1 + 1))))
 
--- which device's part an event sets; fire sets all of its device. None of a departure or a return, which clash with every event
+-- which device's part an event touches; fire touches all of its device
 data Uses : Event → ℕ → Part → Type 0 where
   by-fire : (a : ℕ) (p : Part) → Uses (fire a) a p
   at-hearer : (a b : ℕ) → Uses (deliver a b) b (heard a)
@@ -91,57 +87,14 @@ module _ (j b : ℕ) (h : Device b) where
 abbrev owner : ℕ → ℕ
 owner x = x / block_size + 1
 
--- no departure and no return
-abbrev Steady : Event → Type 0
-Steady (fire a) = Unit {0}
-Steady (deliver a b) = Unit {0}
-Steady (lose a b) = Unit {0}
-Steady (link a b d) = Unit {0}
-Steady (signal a s v) = Unit {0}
-Steady (leave a) = ⊥
-Steady (come_back a) = ⊥
-
-steady : (e f : Event) → clashes_with e f ≡ false → Steady e
-steady (fire a) f q = tt
-steady (deliver a b) f q = tt
-steady (lose a b) f q = tt
-steady (link a b d) f q = tt
-steady (signal a s v) f q = tt
-steady (leave a) f q = true≢false q
-steady (come_back a) f q = true≢false q
-
-uses : (e : Event) (x : ℕ) → Steady e → Named e → Target e x → Uses e (owner x) (part_of (x % block_size))
-uses (fire a) x s h w = let o : owner x ≡ a = omega arith in rw o (by-fire a (part_of (x % block_size)))
-uses (deliver a b) x s h (inl w) = let o : owner x ≡ b = omega arith in rw (o, is-heard (x % block_size) a h.0 (omega arith) (omega arith)) (at-hearer a b)
-uses (deliver a b) x s h (inr (inl w)) = let o : owner x ≡ b = omega arith in rw (o, is-age (x % block_size) a h.0 (omega arith)) (at-age a b)
-uses (deliver a b) x s h (inr (inr w)) = let o : owner x ≡ a = omega arith in rw (o, is-pending (x % block_size) b h.1 (omega arith) (omega arith)) (at-sender a b)
-uses (lose a b) x s h w = let o : owner x ≡ a = omega arith in rw (o, is-pending (x % block_size) b h.1 (omega arith) (omega arith)) (by-loss a b)
-uses (link a b d) x s h w = let o : owner x ≡ a = omega arith in rw (o, is-distance (x % block_size) b h.1 (omega arith)) (by-link a b d)
-uses (signal a t v) x s h w = let o : owner x ≡ a = omega arith in rw (o, lt-ltb (x % block_size) (heard_at 1) (omega arith)) (by-signal a t v)
-uses (leave a) x s h w = absurd s
-uses (come_back a) x s h w = absurd s
-
--- what it sets is no device's cell 545, and what it only reads is one
-below : (e : Event) (x : ℕ) → Steady e → Named e → Target e x → x % block_size < presence_at
-below (fire a) x s h w = omega arith
-below (deliver a b) x s h (inl w) = let o : owner x ≡ b = omega arith in omega arith
-below (deliver a b) x s h (inr (inl w)) = let o : owner x ≡ b = omega arith in omega arith
-below (deliver a b) x s h (inr (inr w)) = let o : owner x ≡ a = omega arith in omega arith
-below (lose a b) x s h w = let o : owner x ≡ a = omega arith in omega arith
-below (link a b d) x s h w = let o : owner x ≡ a = omega arith in omega arith
-below (signal a t v) x s h w = omega arith
-below (leave a) x s h w = absurd s
-below (come_back a) x s h w = absurd s
-
-at-presence : (e : Event) (x : ℕ) → Named e → Asks e x → x % block_size ≡ presence_at
-at-presence (fire a) x h q = omega arith
-at-presence (deliver a b) x h q = omega arith
-at-presence (lose a b) x h q = omega arith
-at-presence (link a b d) x h (inl q) = omega arith
-at-presence (link a b d) x h (inr q) = omega arith
-at-presence (signal a s v) x h q = omega arith
-at-presence (leave a) x h q = absurd q
-at-presence (come_back a) x h q = absurd q
+uses : (e : Event) (x : ℕ) → Named e → Reach e x → Uses e (owner x) (part_of (x % block_size))
+uses (fire a) x h w = let o : owner x ≡ a = omega arith in rw o (by-fire a (part_of (x % block_size)))
+uses (deliver a b) x h (inl w) = let o : owner x ≡ b = omega arith in rw (o, is-heard (x % block_size) a h.0 (omega arith) (omega arith)) (at-hearer a b)
+uses (deliver a b) x h (inr (inl w)) = let o : owner x ≡ b = omega arith in rw (o, is-age (x % block_size) a h.0 (omega arith)) (at-age a b)
+uses (deliver a b) x h (inr (inr w)) = let o : owner x ≡ a = omega arith in rw (o, is-pending (x % block_size) b h.1 (omega arith) (omega arith)) (at-sender a b)
+uses (lose a b) x h w = let o : owner x ≡ a = omega arith in rw (o, is-pending (x % block_size) b h.1 (omega arith) (omega arith)) (by-loss a b)
+uses (link a b d) x h w = let o : owner x ≡ a = omega arith in rw (o, is-distance (x % block_size) b h.1 (omega arith)) (by-link a b d)
+uses (signal a s v) x h w = let o : owner x ≡ a = omega arith in rw (o, lt-ltb (x % block_size) (heard_at 1) (omega arith)) (by-signal a s v)
 
 -- what fire a then clashes with
 concerned : {f : Event} {a : ℕ} {p : Part} → Uses f a p → concerns a f ≡ true
@@ -154,25 +107,24 @@ concerned (by-link a b d) = eq-eqb a a refl
 concerned (by-signal a s v) = eq-eqb a a refl
 
 -- two signals of one device, which set digits of one cell
-abbrev Signals : Event → ℕ → Type 0
-Signals (fire a) c = ⊥
-Signals (deliver a b) c = ⊥
-Signals (lose a b) c = ⊥
-Signals (link a b d) c = ⊥
-Signals (signal a s v) c = c ≡ a
-Signals (leave a) c = ⊥
-Signals (come_back a) c = ⊥
-
 abbrev pub SameSensors : Event → Event → Type 0
-SameSensors e f = (c : ℕ) × (Signals e c × Signals f c)
+SameSensors (fire a) f = ⊥
+SameSensors (deliver a b) f = ⊥
+SameSensors (lose a b) f = ⊥
+SameSensors (link a b d) f = ⊥
+SameSensors (signal a s v) (fire b) = ⊥
+SameSensors (signal a s v) (deliver b c) = ⊥
+SameSensors (signal a s v) (lose b c) = ⊥
+SameSensors (signal a s v) (link b c d) = ⊥
+SameSensors (signal a s v) (signal b t w) = a ≡ b
 
-fire-too : {A : Type 0} {f : Event} {a : ℕ} {p : Part} → Uses f a p → concerns a f ≡ false → A
-fire-too v q = absurd (true≢false (sym (concerned v) ∙ q))
+fire-too : {f : Event} {a : ℕ} {p : Part} → Uses f a p → concerns a f ≡ false → ⊥
+fire-too v q = true≢false (sym (concerned v) ∙ q)
 
-one-pair : {A : Type 0} (a b : ℕ) → (eqb a a && eqb b b || eqb a a && eqb b b) ≡ false → A
-one-pair a b q = absurd (not-both a b a b (neither (eqb a a && eqb b b) _ q).0 refl refl)
+one-pair : (a b : ℕ) → (eqb a a && eqb b b || eqb a a && eqb b b) ≡ false → ⊥
+one-pair a b q = not-both a b a b (neither (eqb a a && eqb b b) _ q).0 refl refl
 
--- two events that set one part
+-- two events that touch one part
 shared : {e f : Event} {a : ℕ} {p : Part} → clash e f ≡ false → Uses e a p → Uses f a p → SameSensors e f
 shared {e} {f} q (by-fire a p) v = fire-too v (neither (clashes_with e f) (clashes_with f e) q).0
 shared q (at-hearer a b) (by-fire c p) = fire-too (at-hearer a b) q
@@ -188,14 +140,7 @@ shared q (by-loss a b) (by-loss c d) = one-pair a b q
 shared q (by-link a b d) (by-fire c p) = fire-too (by-link a b d) q
 shared q (by-link a b d) (by-link c e f) = one-pair a b q
 shared q (by-signal a s v) (by-fire c p) = fire-too (by-signal a s v) q
-shared q (by-signal a s v) (by-signal b t w) = (a, (refl, refl))
+shared q (by-signal a s v) (by-signal b t w) = refl
 
-pub apart : (e f : Event) → clash e f ≡ false → (x : ℕ) → Reads e x → Sets f x → SameSensors e f
-apart e f q x t u = by t.1
-  where
-    calm : Steady e × Steady f
-    calm = let k = neither (clashes_with e f) (clashes_with f e) q in (steady e f k.0, steady f e k.1)
-
-    by : Target e x ⊎ Asks e x → SameSensors e f
-    by (inl w) = shared q (uses e x calm.0 (named e t.0) w) (uses f x calm.1 (named f u.0) u.1)
-    by (inr w) = absurd (omega (arith, below f x calm.1 (named f u.0) u.1, at-presence e x (named e t.0) w))
+pub apart : (e f : Event) → clash e f ≡ false → (x : ℕ) → Touched e x → Touched f x → SameSensors e f
+apart e f q x t u = shared q (uses e x (named e t.0) t.1) (uses f x (named f u.0) u.1)

@@ -1,8 +1,8 @@
 -- Events that do not clash commute.
-use mathlib.Core.Path.{◌≡◌, refl, sym, ap, ◌∙◌}
+use mathlib.Core.Path.{◌≡◌, sym, ap, ◌∙◌}
 use mathlib.Core.Logic.{◌≢◌}
-use mathlib.Core.Bool.{Bool, true, false, ◌&&◌}
-use mathlib.Core.List.{List, []}
+use mathlib.Core.Bool.{false, ◌&&◌}
+use mathlib.Core.List.{List}
 use Prim.Native.Nat.{ℕ, ◌<◌}
 use native.Mathlib.Omega.{arith}
 use native.Mathlib.Decide.{ℕ_discrete}
@@ -10,18 +10,16 @@ use lib.Dec.{eqb}
 use lib.ListN.{length, get_or, set}
 use lib.Seq.{ext_get_or, set-set, get_or-set_same}
 use lib.IntN.{ℤ, pos, nat_abs}
-use Rattle.number.specs.Number.{eq_z}
 use Rattle.order.specs.Order.{Commute}
 use Rattle.order.proofs.Footprint.{apart-commute}
 use Rattle.program.specs.Tree.{Expr}
 use Rattle.network.specs.Cells.{write}
-use Rattle.event.specs.Event.{Event, fire, deliver, lose, link, signal, leave, come_back, Entry, event_of}
-use Rattle.event.specs.Step.{Plan, sensors_of, presence_of, digit_set, gone, effect, plan, do_event, step}
+use Rattle.event.specs.Event.{Event, fire, deliver, lose, link, signal, Entry, event_of}
+use Rattle.event.specs.Step.{Plan, sensors_of, digit_set, effect, plan, do_event, step}
 use Rattle.clash.specs.Clash.{clash, entries_clash}
 use Rattle.network.proofs.Stores.{store-one}
 use Rattle.clash.proofs.Digits.{digits-commute}
-use Rattle.clash.proofs.Symmetric.{clash-symmetric}
-use Rattle.clash.proofs.Touched.{Fits, fits?, Sets, Reads, sets-reads, sets?, plan-chosen, Whole, stays, frame, local}
+use Rattle.clash.proofs.Touched.{Fits, fits?, Touched, touched?, plan-chosen, Whole, stays, frame, local}
 use Rattle.clash.proofs.Apart.{SameSensors, apart, sensors-inside, not-both}
 use Rattle.decide.proofs.Picks.{neither}
 
@@ -37,83 +35,58 @@ lit-commute : (n : List ℤ) (a s v t w : ℕ) → sensors_of a < length n → s
 lit-commute n a s v t w b q = rw (lit-lit n a s v t w b, lit-lit n a t w s v b, digits-commute s t v w)
 
 module _ (main : Expr) where
-  -- by the cells that they set and read
-  footprints : (n : List ℤ) (e f : Event) → Whole n → ((c : ℕ) → Reads e c → Sets f c → ⊥) → ((c : ℕ) → Sets e c → Reads f c → ⊥) → Commute (do_event main) n e f
+  -- by the cells that they touch
+  footprints : (n : List ℤ) (e f : Event) → Whole n → ((c : ℕ) → Touched e c → Touched f c → ⊥) → Commute (do_event main) n e f
   footprints =
       apart-commute (do_event main) (λ n c. get_or n c (pos 0)) Whole (stays main)
-      (λ n m g k h. ext_get_or (pos 0) n m (g ∙ sym k) (λ i _. h i)) Reads Sets sets-reads sets? (frame main) (local main)
+      (λ n m g k h. ext_get_or (pos 0) n m (g ∙ sym k) (λ i _. h i)) Touched touched? (frame main) (local main)
 
-  -- what a signal in range of a present device does
-  signalled : (n : List ℤ) (a s v : ℕ) → gone n a ≡ false → Fits (signal a s v) → plan main n (signal a s v) ≡ effect main n (signal a s v)
-  signalled n a s v p h = rw (plan-chosen, h, p)
+  -- what a signal in range does
+  signalled : (n : List ℤ) (a s v : ℕ) → Fits (signal a s v) → plan main n (signal a s v) ≡ effect main n (signal a s v)
+  signalled n a s v h = rw (plan-chosen, h)
 
-  lit-network : (n : List ℤ) (a s v : ℕ) → gone n a ≡ false → Fits (signal a s v) → (do_event main n (signal a s v)).0 ≡ lit a s v n
-  lit-network n a s v p h = ap (λ (p : Plan). write n p.0) (signalled n a s v p h) ∙ sym (store-one n (sensors_of a) _)
+  lit-network : (n : List ℤ) (a s v : ℕ) → Fits (signal a s v) → (do_event main n (signal a s v)).0 ≡ lit a s v n
+  lit-network n a s v h = ap (λ (p : Plan). write n p.0) (signalled n a s v h) ∙ sym (store-one n (sensors_of a) _)
 
-  lit-answer : (n : List ℤ) (a s v : ℕ) → gone n a ≡ false → Fits (signal a s v) → (do_event main n (signal a s v)).1 ≡ (pos 0, pos 0)
-  lit-answer n a s v p h = ap (λ (p : Plan). p.1) (signalled n a s v p h)
+  lit-answer : (n : List ℤ) (a s v : ℕ) → Fits (signal a s v) → (do_event main n (signal a s v)).1 ≡ (pos 0, pos 0)
+  lit-answer n a s v h = ap (λ (p : Plan). p.1) (signalled n a s v h)
 
-  -- a signal lets nobody go
-  still-there : (n : List ℤ) (a s v : ℕ) → Whole n → gone n a ≡ false → gone (do_event main n (signal a s v)).0 a ≡ false
-  still-there n a s v g p = ap (λ (z : ℤ). eq_z z (pos 0)) (frame main n (signal a s v) g (presence_of a) (λ t. omega (arith, t.1))) ∙ p
-
-  -- two sensors of one device that is present: both orders set both digits
-  two-signals : (n : List ℤ) (a s v t w : ℕ) → Whole n → s ≢ t → Fits (signal a s v) → Fits (signal a t w) → gone n a ≡ false
+  -- two sensors of one device: both orders set both digits
+  two-signals : (n : List ℤ) (a s v t w : ℕ) → Whole n → s ≢ t → Fits (signal a s v) → Fits (signal a t w)
       → Commute (do_event main) n (signal a s v) (signal a t w)
-  two-signals n a s v t w g q h k p =
+  two-signals n a s v t w g q h k =
       let x : List ℤ = (do_event main n (signal a s v)).0 in
       let y : List ℤ = (do_event main n (signal a t w)).0 in
-      let px : gone x a ≡ false = still-there n a s v g p in
-      let py : gone y a ≡ false = still-there n a t w g p in
       let b : sensors_of a < length n = omega (arith, sensors-inside a s v h) in (
-        lit-network x a t w px k ∙ ap (lit a t w) (lit-network n a s v p h) ∙ lit-commute n a s v t w b q
-            ∙ sym (lit-network y a s v py h ∙ ap (lit a s v) (lit-network n a t w p k)),
-        lit-answer n a s v p h ∙ sym (lit-answer y a s v py h),
-        lit-answer x a t w px k ∙ sym (lit-answer n a t w p k),
+        lit-network x a t w k ∙ ap (lit a t w) (lit-network n a s v h) ∙ lit-commute n a s v t w b q
+            ∙ sym (lit-network y a s v h ∙ ap (lit a s v) (lit-network n a t w k)),
+        lit-answer n a s v h ∙ sym (lit-answer y a s v h),
+        lit-answer x a t w k ∙ sym (lit-answer n a t w k),
       )
 
-  -- and of one that is gone: both are refused in either order
-  two-refused : (n : List ℤ) (a s v t w : ℕ) → Fits (signal a s v) → Fits (signal a t w) → gone n a ≡ true → Commute (do_event main) n (signal a s v) (signal a t w)
-  two-refused n a s v t w h k p =
-      let one : plan main n (signal a s v) ≡ ([], (pos 21, pos 0)) = rw (plan-chosen, h, p) in
-      let other : plan main n (signal a t w) ≡ ([], (pos 21, pos 0)) = rw (plan-chosen, k, p) in
-      rw (one, other, one) (refl, refl, refl)
-
-  of-one-device : (n : List ℤ) (a s v t w : ℕ) → Whole n → s ≢ t → Fits (signal a s v) → Fits (signal a t w) → Commute (do_event main) n (signal a s v) (signal a t w)
-  of-one-device n a s v t w g q h k = by (gone n a) refl
-    where
-      by : (p : Bool) → gone n a ≡ p → Commute (do_event main) n (signal a s v) (signal a t w)
-      by true p = two-refused n a s v t w h k p
-      by false p = two-signals n a s v t w g q h k p
-
   unless-signals : (n : List ℤ) (e f : Event) → Whole n → clash e f ≡ false → ¬ SameSensors e f → Commute (do_event main) n e f
-  unless-signals n e f g q h =
-      footprints n e f g (λ c t u. h (apart e f q c t u)) (λ c t u. let k = apart f e (clash-symmetric f e ∙ q) c u t in h (k.0, (k.1.1, k.1.0)))
+  unless-signals n e f g q h = footprints n e f g (λ c t u. h (apart e f q c t u))
 
-  -- two signals in range of one device set two digits; of any others neither sets what the other reads
+  -- two signals in range of one device set two digits; any others touch no common cell
   signals-commute : (n : List ℤ) (a s v b t w : ℕ) → Whole n → clash (signal a s v) (signal b t w) ≡ false
       → Commute (do_event main) n (signal a s v) (signal b t w)
   signals-commute n a s v b t w g q = go (ℕ_discrete a b) (fits? (signal a s v)) (fits? (signal b t w))
     where
       go : Dec (a ≡ b) → Dec (Fits (signal a s v)) → Dec (Fits (signal b t w)) → Commute (do_event main) n (signal a s v) (signal b t w)
-      go (no d) _ _ = unless-signals n (signal a s v) (signal b t w) g q (λ k. d (sym k.1.0 ∙ k.1.1))
-      go (yes d) (no h) _ = footprints n (signal a s v) (signal b t w) g (λ c i j. h i.0) (λ c i j. h i.0)
-      go (yes d) (yes h) (no k) = footprints n (signal a s v) (signal b t w) g (λ c i j. k j.0) (λ c i j. k j.0)
-      go (yes d) (yes h) (yes k) = rw (← d) (of-one-device n a s v t w g (not-both a s b t (neither (eqb a b && eqb s t) _ q).0 d) h (rw (← d) at k))
+      go (no d) _ _ = unless-signals n (signal a s v) (signal b t w) g q d
+      go (yes d) (no h) _ = footprints n (signal a s v) (signal b t w) g (λ c i j. h i.0)
+      go (yes d) (yes h) (no k) = footprints n (signal a s v) (signal b t w) g (λ c i j. k j.0)
+      go (yes d) (yes h) (yes k) = rw (← d) (two-signals n a s v t w g (not-both a s b t (neither (eqb a b && eqb s t) _ q).0 d) h (rw (← d) at k))
 
   events-commute : (n : List ℤ) (e f : Event) → Whole n → clash e f ≡ false → Commute (do_event main) n e f
-  events-commute n (fire a) f g q = unless-signals n (fire a) f g q (λ k. k.1.0)
-  events-commute n (deliver a b) f g q = unless-signals n (deliver a b) f g q (λ k. k.1.0)
-  events-commute n (lose a b) f g q = unless-signals n (lose a b) f g q (λ k. k.1.0)
-  events-commute n (link a b d) f g q = unless-signals n (link a b d) f g q (λ k. k.1.0)
-  events-commute n (leave a) f g q = unless-signals n (leave a) f g q (λ k. k.1.0)
-  events-commute n (come_back a) f g q = unless-signals n (come_back a) f g q (λ k. k.1.0)
-  events-commute n (signal a s v) (fire b) g q = unless-signals n (signal a s v) (fire b) g q (λ k. k.1.1)
-  events-commute n (signal a s v) (deliver b c) g q = unless-signals n (signal a s v) (deliver b c) g q (λ k. k.1.1)
-  events-commute n (signal a s v) (lose b c) g q = unless-signals n (signal a s v) (lose b c) g q (λ k. k.1.1)
-  events-commute n (signal a s v) (link b c d) g q = unless-signals n (signal a s v) (link b c d) g q (λ k. k.1.1)
-  events-commute n (signal a s v) (leave b) g q = unless-signals n (signal a s v) (leave b) g q (λ k. k.1.1)
-  events-commute n (signal a s v) (come_back b) g q = unless-signals n (signal a s v) (come_back b) g q (λ k. k.1.1)
+  events-commute n (fire a) f g q = unless-signals n (fire a) f g q (λ x. x)
+  events-commute n (deliver a b) f g q = unless-signals n (deliver a b) f g q (λ x. x)
+  events-commute n (lose a b) f g q = unless-signals n (lose a b) f g q (λ x. x)
+  events-commute n (link a b d) f g q = unless-signals n (link a b d) f g q (λ x. x)
+  events-commute n (signal a s v) (fire b) g q = unless-signals n (signal a s v) (fire b) g q (λ x. x)
+  events-commute n (signal a s v) (deliver b c) g q = unless-signals n (signal a s v) (deliver b c) g q (λ x. x)
+  events-commute n (signal a s v) (lose b c) g q = unless-signals n (signal a s v) (lose b c) g q (λ x. x)
+  events-commute n (signal a s v) (link b c d) g q = unless-signals n (signal a s v) (link b c d) g q (λ x. x)
   events-commute n (signal a s v) (signal b t w) g q = signals-commute n a s v b t w g q
 
   -- the same of entries of lists

@@ -8,7 +8,7 @@ use Prim.Native.Nat.{ℕ, ◌+◌}
 use lib.Dec.{eqb}
 use lib.IntN.{ℤ, pos}
 use Rattle.number.specs.Number.{mark}
-use Rattle.event.specs.Event.{Event, fire, deliver, lose, link, signal, leave, come_back, Entry, event_of, read_as}
+use Rattle.event.specs.Event.{Event, fire, deliver, lose, link, signal, Entry, event_of, read_as}
 use Rattle.clash.specs.Clash.{clash, entries_clash}
 
 -- f at each device, at each pair of devices (a device and itself too: clashes go by the bytes, also of events that are refused, D12)
@@ -18,10 +18,6 @@ at_each f = f 1 ++ (f 2 ++ f 3)
 abbrev pairs : (ℕ → ℕ → List Event) → List Event
 pairs f = at_each (λ a. at_each (λ b. f a b))
 
--- a departure and a return of each
-abbrev changing : List Event
-changing = at_each (λ a. leave a ∷ come_back a ∷ [])
-
 -- every event of three devices, two sensors and their switch, a link at 10 or ended
 abbrev all : List Event
 all =
@@ -29,7 +25,7 @@ all =
     ++ (pairs (λ a b. deliver a b ∷ [])
     ++ (pairs (λ a b. lose a b ∷ [])
     ++ (pairs (λ a b. link a b (pos 10) ∷ link a b mark ∷ [])
-    ++ (at_each (λ a. signal a 0 0 ∷ signal a 0 1 ∷ signal a 1 0 ∷ signal a 1 1 ∷ []) ++ changing))))
+    ++ at_each (λ a. signal a 0 0 ∷ signal a 0 1 ∷ signal a 1 0 ∷ signal a 1 1 ∷ []))))
 
 -- those of the list that clash with e, as the one and as the other
 chosen : (Event → Bool) → List Event → List Event
@@ -52,7 +48,7 @@ firing =
     ∷ lose 1 1 ∷ lose 1 2 ∷ lose 1 3
     ∷ link 1 1 (pos 10) ∷ link 1 1 mark ∷ link 1 2 (pos 10) ∷ link 1 2 mark ∷ link 1 3 (pos 10) ∷ link 1 3 mark
     ∷ signal 1 0 0 ∷ signal 1 0 1 ∷ signal 1 1 0 ∷ signal 1 1 1
-    ∷ changing
+    ∷ []
 
 fires : (clashing (fire 1) ≡ firing) × (clashing_back (fire 1) ≡ firing)
 unfolding chosen clashing clashing_back firing
@@ -60,14 +56,14 @@ fires = (refl, refl)
 
 -- "both deliver or lose the same pair a, b", and the rounds of both for a delivery, of the sender for a loss. Not: the pair turned round, another hearer or sender, a link of the pair, a sensor
 delivering : List Event
-delivering = fire 1 ∷ fire 2 ∷ deliver 1 2 ∷ lose 1 2 ∷ changing
+delivering = fire 1 ∷ fire 2 ∷ deliver 1 2 ∷ lose 1 2 ∷ []
 
 delivers : (clashing (deliver 1 2) ≡ delivering) × (clashing_back (deliver 1 2) ≡ delivering)
 unfolding chosen clashing clashing_back delivering
 delivers = (refl, refl)
 
 losing : List Event
-losing = fire 1 ∷ deliver 1 2 ∷ lose 1 2 ∷ changing
+losing = fire 1 ∷ deliver 1 2 ∷ lose 1 2 ∷ []
 
 loses : (clashing (lose 1 2) ≡ losing) × (clashing_back (lose 1 2) ≡ losing)
 unfolding chosen clashing clashing_back losing
@@ -75,7 +71,7 @@ loses = (refl, refl)
 
 -- "or link one pair", whatever the distances, and the round of the device it goes from. Not: the link turned round, another pair, a delivery or loss of the pair, a sensor
 linking : List Event
-linking = fire 1 ∷ link 1 2 (pos 10) ∷ link 1 2 mark ∷ changing
+linking = fire 1 ∷ link 1 2 (pos 10) ∷ link 1 2 mark ∷ []
 
 links : (clashing (link 1 2 (pos 10)) ≡ linking) × (clashing_back (link 1 2 (pos 10)) ≡ linking) × (clashing (link 1 2 mark) ≡ linking)
 unfolding chosen clashing clashing_back linking
@@ -83,7 +79,7 @@ links = (refl, refl, refl)
 
 -- "or signal one sensor of one device", whatever the switch, and the round of that device. Not: another sensor, another device, a link from or a delivery to the device
 signalling : List Event
-signalling = fire 1 ∷ signal 1 0 0 ∷ signal 1 0 1 ∷ changing
+signalling = fire 1 ∷ signal 1 0 0 ∷ signal 1 0 1 ∷ []
 
 signals : (clashing (signal 1 0 1) ≡ signalling) × (clashing_back (signal 1 0 1) ≡ signalling) × (clashing (signal 1 0 0) ≡ signalling)
 unfolding chosen clashing clashing_back signalling
@@ -91,19 +87,12 @@ signals = (refl, refl, refl)
 
 -- of a device and itself, which is refused with 15: still by the pair, the sender and the hearer (D12)
 abbrev own : List Event
-own = fire 1 ∷ deliver 1 1 ∷ lose 1 1 ∷ changing
+own = fire 1 ∷ deliver 1 1 ∷ lose 1 1 ∷ []
 
 to-itself : (clashing (deliver 1 1) ≡ own) × (clashing_back (deliver 1 1) ≡ own) × (clashing (lose 1 1) ≡ own) × (clashing_back (lose 1 1) ≡ own)
-    × (clashing (link 1 1 mark) ≡ fire 1 ∷ link 1 1 (pos 10) ∷ link 1 1 mark ∷ changing)
+    × (clashing (link 1 1 mark) ≡ fire 1 ∷ link 1 1 (pos 10) ∷ link 1 1 mark ∷ [])
 unfolding chosen clashing clashing_back
 to-itself = (refl, refl, refl, refl, refl)
-
--- L5: "Both events clash with every event": those that name the device and those that do not, a departure and a return of the same device and of another, also where they are
--- refused (L5.7)
-of-all : (clashing (leave 1) ≡ all) × (clashing_back (leave 1) ≡ all) × (clashing (come_back 1) ≡ all) × (clashing_back (come_back 1) ≡ all) × (clashing (leave 99) ≡ all)
-    × (clashing (come_back 0) ≡ all)
-unfolding chosen clashing clashing_back
-of-all = (refl, refl, refl, refl, refl, refl)
 
 -- the same events of other devices, sensors, switches and distances
 renamed : (ℕ → ℕ) → (ℕ → ℕ) → (ℕ → ℕ) → (ℤ → ℤ) → Event → Event
@@ -112,8 +101,6 @@ renamed r s v d (deliver a b) = deliver (r a) (r b)
 renamed r s v d (lose a b) = lose (r a) (r b)
 renamed r s v d (link a b w) = link (r a) (r b) (d w)
 renamed r s v d (signal a t u) = signal (r a) (s t) (v u)
-renamed r s v d (leave a) = leave (r a)
-renamed r s v d (come_back a) = come_back (r a)
 
 square : (Event → Event) → List (List Bool)
 square g = map (λ e. map (λ f. clash (g e) (g f)) all) all
@@ -148,8 +135,7 @@ of-entries e f = refl
 abbrev entry : ℕ → List ℕ → Entry
 entry tag body = record { tag = tag; body = body }
 
-entries : (entries_clash (entry 0x15 (3 ∷ [])) (entry 0x12 (1 ∷ 2 ∷ [])) ≡ true) × (entries_clash (entry 0x12 (1 ∷ 2 ∷ [])) (entry 0x16 (3 ∷ [])) ≡ true)
-    × (entries_clash (entry 0x10 (1 ∷ [])) (entry 0x12 (1 ∷ 2 ∷ [])) ≡ true) × (entries_clash (entry 0x10 (2 ∷ [])) (entry 0x12 (1 ∷ 2 ∷ [])) ≡ false)
+entries : (entries_clash (entry 0x10 (1 ∷ [])) (entry 0x12 (1 ∷ 2 ∷ [])) ≡ true) × (entries_clash (entry 0x10 (2 ∷ [])) (entry 0x12 (1 ∷ 2 ∷ [])) ≡ false)
     × (entries_clash (entry 0x12 (1 ∷ 2 ∷ [])) (entry 0x10 (1 ∷ [])) ≡ true) × (entries_clash (entry 0x09 []) (entry 0x12 (1 ∷ 2 ∷ [])) ≡ false)
 unfolding read_as
-entries = (refl, refl, refl, refl, refl, refl)
+entries = (refl, refl, refl, refl)

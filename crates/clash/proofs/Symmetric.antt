@@ -1,8 +1,8 @@
 -- Two events clash whichever of them is named first.
 use mathlib.Core.Path.{◌≡◌, refl}
 use mathlib.Core.Bool.{Bool, true, false, ◌||◌}
-use Rattle.event.specs.Event.{Event, Entry, event_of}
-use Rattle.clash.specs.Clash.{clashes_with, clash, entries_clash}
+use Rattle.event.specs.Event.{Entry, event_of}
+use Rattle.clash.specs.Clash.{clashes_with, entries_clash}
 
 or_comm : (a b : Bool) → (a || b) ≡ (b || a)
 or_comm true true = refl
@@ -10,8 +10,5 @@ or_comm true false = refl
 or_comm false true = refl
 or_comm false false = refl
 
-pub clash-symmetric : (e f : Event) → clash e f ≡ clash f e
-clash-symmetric e f = or_comm (clashes_with e f) (clashes_with f e)
-
 pub entries-symmetric : (e f : Entry) → entries_clash e f ≡ entries_clash f e
-entries-symmetric e f = clash-symmetric (event_of e) (event_of f)
+entries-symmetric e f = or_comm (clashes_with (event_of e) (event_of f)) (clashes_with (event_of f) (event_of e))

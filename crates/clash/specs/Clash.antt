@@ -1,6 +1,6 @@
 -- Which events clash. Definitions only: nothing is assumed.
-use Rattle.std.specs.Prelude.{Bool, true, false, ◌&&◌, ◌||◌, ℕ, eqb}
-use Rattle.event.specs.Event.{Event, fire, deliver, lose, link, signal, leave, come_back, Entry, event_of}
+use Rattle.std.specs.Prelude.{Bool, false, ◌&&◌, ◌||◌, ℕ, eqb}
+use Rattle.event.specs.Event.{Event, fire, deliver, lose, link, signal, Entry, event_of}
 
 -- "the other fires a, signals a, links from a, delivers from or to a, or loses from a"
 abbrev pub concerns : ℕ → Event → Bool
@@ -9,8 +9,6 @@ concerns a (signal b s v) = eqb a b
 concerns a (link b c d) = eqb a b
 concerns a (deliver b c) = eqb a b || eqb a c
 concerns a (lose b c) = eqb a b
-concerns a (leave b) = false
-concerns a (come_back b) = false
 
 -- delivers or loses the pair a, b
 abbrev pub takes : ℕ → ℕ → Event → Bool
@@ -19,8 +17,6 @@ takes a b (signal c s v) = false
 takes a b (link c d w) = false
 takes a b (deliver c d) = eqb a c && eqb b d
 takes a b (lose c d) = eqb a c && eqb b d
-takes a b (leave c) = false
-takes a b (come_back c) = false
 
 abbrev pub signals : ℕ → ℕ → Event → Bool
 signals a s (fire c) = false
@@ -28,8 +24,6 @@ signals a s (signal c t v) = eqb a c && eqb s t
 signals a s (link c d w) = false
 signals a s (deliver c d) = false
 signals a s (lose c d) = false
-signals a s (leave c) = false
-signals a s (come_back c) = false
 
 abbrev pub links : ℕ → ℕ → Event → Bool
 links a b (fire c) = false
@@ -37,19 +31,14 @@ links a b (signal c s v) = false
 links a b (link c d w) = eqb a c && eqb b d
 links a b (deliver c d) = false
 links a b (lose c d) = false
-links a b (leave c) = false
-links a b (come_back c) = false
 
--- "one fires a and the other .. ; or both deliver or lose the same pair a, b; or signal one sensor of one device; or link one pair"; L5: "Both
--- events clash with every event"
+-- "one fires a and the other .. ; or both deliver or lose the same pair a, b; or signal one sensor of one device; or link one pair"
 abbrev pub clashes_with : Event → Event → Bool
 clashes_with (fire a) f = concerns a f
 clashes_with (signal a s v) f = signals a s f
 clashes_with (link a b d) f = links a b f
 clashes_with (deliver a b) f = takes a b f
 clashes_with (lose a b) f = takes a b f
-clashes_with (leave a) f = true
-clashes_with (come_back a) f = true
 
 -- whichever of the two is the one
 abbrev pub clash : Event → Event → Bool

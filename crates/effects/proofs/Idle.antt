@@ -1,31 +1,31 @@
 -- What `fire` asks of the rows of messages: a sound network has it, and every event keeps it. Assumes nothing.
-use mathlib.Core.Path.{◌≡◌, refl, sym, ◌∙◌}
-use mathlib.Core.Bool.{Bool, true, false, cond, or-true, or-false}
+use mathlib.Core.Path.{◌≡◌, refl, sym, ap, ◌∙◌}
+use mathlib.Core.Bool.{Bool, true, false, cond, ◌&&◌, or-true, or-false}
 use mathlib.Core.List.{List, [], ◌∷◌, map}
 use Prim.Native.Nat.{ℕ, zero, suc, ◌+◌, ◌-◌, ◌*◌, ◌/◌, ◌%◌, ◌≤◌, ◌<◌}
 use native.Mathlib.Decide.{ℕ_discrete}
 use native.Mathlib.Omega.{arith}
 use lib.Dec.{eqb}
-use lib.ListN.{length, get_or, drop, length-drop, get_or-replicate}
+use lib.ListN.{length, get_or, drop, length-take, length-drop, get_or-replicate}
 use lib.Seq.{ext_get_or, get_or-take, get_or-drop}
 use lib.IntN.{ℤ, pos}
-use borrow.Author.Tests.{ne_eqb, lt-ltb, le-ltb}
+use borrow.Author.Tests.{not-false, eqb-true, ne_eqb, lt-ltb, le-ltb}
 use Rattle.number.specs.Number.{mark, eq_z}
 use Rattle.field.specs.Field.{devices, each}
 use Rattle.program.specs.Tree.{Expr}
-use Rattle.network.specs.Cells.{row, store}
-use Rattle.network.specs.Network.{sensors_at, heard_at, pending_at, age_at, presence_at, block_size, network_size, base, no_message, pending_sound, keeps_rules, gone_sound, cell_sound, soundness}
-use Rattle.network.proofs.Stores.{length-store, row-row}
+use Rattle.network.specs.Cells.{row, store, write}
+use Rattle.network.specs.Network.{sensors_at, heard_at, pending_at, age_at, block_size, network_size, base, no_message, is_distance, pending_sound, cell_sound, soundness}
+use Rattle.network.proofs.Stores.{length-store}
 use Rattle.round.specs.Round.{State, message, joined, older, ages, faded, after, fired}
 use Rattle.round.proofs.After.{fired-length}
-use Rattle.event.specs.Event.{Event}
-use Rattle.event.specs.Step.{sensors_of, pending_to, block, do_event}
-use Rattle.event.proofs.Devices.{Device}
+use Rattle.event.specs.Event.{Event, fire, deliver, lose, link, signal}
+use Rattle.event.specs.Step.{sensors_of, heard_from, pending_to, age_of, block, is_device, out_of_range, refusal, effect, plan, do_event}
+use Rattle.event.proofs.Devices.{Device, device, pair_of}
 use Rattle.decide.proofs.Picks.{both}
 use Rattle.arith.proofs.Signs.{eq_z-yes, eq_z-same}
 use Rattle.effects.specs.Does.{IdleRow, Idle}
-use Rattle.effects.proofs.Kept.{Keeps, event-keeps}
-use Rattle.cells.proofs.Rows.{row-length, row_first, row_out, row_in, joined_length, joined-row}
+use Rattle.effects.proofs.Refusals.{in-range}
+use Rattle.cells.proofs.Rows.{row-length, store-row, row_first, row_out, row_in, joined_length, joined-row}
 use Rattle.effects.proofs.Variables.{fired-has}
 use Rattle.effects.proofs.Lit.{cell-sound, sound-length}
 
@@ -55,6 +55,14 @@ one-row a b c d z x y i j p q r s =
     let f : b - 1 ≡ d = omega arith in
     omega arith
 
+-- and none has a cell before its device's messages
+no_row : (a c d z : ℕ) → d < devices → pending_to (1 + c) (1 + d) ≤ z → z < pending_to (1 + c) (1 + d) + 16 → base a ≤ z → z < base a + pending_at 1 → ⊥
+no_row a c d z j p q r s = let e : a - 1 ≡ c = omega arith in omega arith
+
+-- nor one of its ages
+no-age : (a b c d z : ℕ) → Device b → d < devices → pending_to (1 + c) (1 + d) ≤ z → z < pending_to (1 + c) (1 + d) + 16 → z ≡ age_of a b → ⊥
+no-age a b c d z x j p q e = let f : a - 1 ≡ c = omega arith in omega arith
+
 -- a row apart from what is stored
 pub idle-out : (m : List ℤ) (lo : ℕ) (vs : List ℤ) (p : ℕ) → ((c : ℕ) → p ≤ c → c < p + 16 → lo ≤ c → c < lo + length vs → ⊥) → IdleRow (row m p 16) → IdleRow (row (store m lo vs) p 16)
 idle-out m lo vs p f g = rw (row_out m lo vs p 16 (pos 0) f) g
@@ -70,63 +78,63 @@ idle-none m a b c d l x y i j g = go (ℕ_discrete (pending_to a b) (pending_to 
         rw f (row_in m (pending_to a b) no_message 0 16 (pos 0) (omega arith) (omega arith))
     go (no e) = idle-out m (pending_to a b) no_message (pending_to (1 + c) (1 + d)) (λ z p q r s. e (one-row a b c d z x y i j p q r s)) g
 
--- of the row from device 1 + c to device 1 + d
-abbrev Of : ℕ → ℕ → List ℤ → Type 0
-Of c d m = (length m ≡ network_size) × IdleRow (row m (pending_to (1 + c) (1 + d)) 16)
+module _ (main : Expr) (n : List ℤ) (w : length n ≡ network_size) (h : Idle n) where
+  -- after a round of device a, its row to device 1 + d
+  after-idle : (a d : ℕ) (s : State) → Device a → d < devices → length s.variables ≤ 16 → length s.sent ≡ 16
+      → IdleRow (row (store n (base a) (after (block n a) s)) (base a + (pending_at 1 + 16 * d)) 16)
+  unfolding after
+  after-idle a d s x j v t =
+      let b = block n a in
+      let k : length b ≡ block_size = row-length n (base a) block_size (omega arith) in
+      let u : List ℤ = joined (each (message b s)) in
+      let m : List ℤ = store (store (store b (heard_at 1) (joined (each (faded b)))) (age_at 1) (map older (ages b))) 0 s.variables in
+      let e : length u ≡ 16 * 16 = joined_length (message b s) 16 1 16 (λ i _. message-length b s (1 + i) t) in
+      rw (
+        row_in n (base a) (store m (pending_at 1) u) (pending_at 1 + 16 * d) 16 (pos 0) (simp length-store (omega arith)) (simp length-store (omega arith)),
+        row_in m (pending_at 1) u (16 * d) 16 (pos 0) (omega arith) (simp length-store (omega arith)),
+        joined-row (message b s) 16 1 16 d (λ i. message-length b s i t) j,
+      )
+      (idle-message b s (1 + d))
 
-module _ (c d : ℕ) (i : c < devices) (j : d < devices) where
-  kept : (lo : ℕ) (vs : List ℤ) → ((m : List ℤ) → Of c d m → IdleRow (row (store m lo vs) (pending_to (1 + c) (1 + d)) 16)) → Keeps (Of c d) lo vs
-  kept lo vs f m h = (simp length-store h.0, f m h)
+  effect-idle : (e : Event) → out_of_range e ≡ false → Idle (write n (effect main n e).0)
+  effect-idle (fire a) o c d i j = go (ℕ_discrete a (1 + c))
+    where
+      x : Device a
+      x = device a (not-false _ o)
 
-  -- a row of device y's cells that its messages are not among
-  off : (y lo : ℕ) (vs : List ℤ) → base y ≤ lo → lo + length vs ≤ base y + block_size → (base y + pending_at 1 < lo + length vs → base y + age_at 1 ≤ lo) → Keeps (Of c d) lo vs
-  off y lo vs p q f =
-      kept lo vs
-      (λ m h. idle-out m lo vs (pending_to (1 + c) (1 + d)) (λ z r s t u. let e : y - 1 ≡ c = omega arith in let k = f (omega arith) in omega arith) h.1)
-
-  module _ (main : Expr) (n : List ℤ) (w : length n ≡ network_size) (h : IdleRow (row n (pending_to (1 + c) (1 + d)) 16)) where
-    -- the row in the cells of device 1 + c: as they were, and after a round
-    same-idle : (a : ℕ) → a ≡ 1 + c → IdleRow (row (block n a) (pending_at 1 + 16 * d) 16)
-    same-idle a x =
-        let f : pending_to (1 + c) (1 + d) ≡ base a + (pending_at 1 + 16 * d) = omega arith in
-        rw (row-row n (base a) presence_at (pending_at 1 + 16 * d) 16 (omega arith)) (rw f at h)
-
-    after-idle : (b : List ℤ) (s : State) → length b ≡ presence_at → length s.sent ≡ 16 → IdleRow (row (after b s) (pending_at 1 + 16 * d) 16)
-    unfolding after
-    after-idle b s k t =
-        let u : List ℤ = joined (each (message b s)) in
-        let o : List ℤ = store (store (store b (heard_at 1) (joined (each (faded b)))) (age_at 1) (map older (ages b))) 0 s.variables in
-        let e : length u ≡ 16 * 16 = joined_length (message b s) 16 1 16 (λ i _. message-length b s (1 + i) t) in
-        rw (row_in o (pending_at 1) u (16 * d) 16 (pos 0) (omega arith) (simp length-store (omega arith)), joined-row (message b s) 16 1 16 d (λ i. message-length b s i t) j)
-        (idle-message b s (1 + d))
-
-    round-idle : (a : ℕ) → Device a → Keeps (Of c d) (base a) (fired main (block n a)).0
-    round-idle a x = kept (base a) (fired main (block n a)).0 (λ m g. go m g (ℕ_discrete a (1 + c)))
-      where
-        k : length (block n a) ≡ presence_at
-        k = row-length n (base a) presence_at (omega arith)
-
-        go : (m : List ℤ) → Of c d m → Dec (a ≡ 1 + c) → IdleRow (row (store m (base a) (fired main (block n a)).0) (pending_to (1 + c) (1 + d)) 16)
-        go m g (yes e) =
-            let f : pending_to (1 + c) (1 + d) ≡ base a + (pending_at 1 + 16 * d) = omega arith in
-            let l = fired-length main (block n a) in
-            rw (f, row_in m (base a) (fired main (block n a)).0 (pending_at 1 + 16 * d) 16 (pos 0) (omega (arith, k)) (omega (arith, k)))
-            (fired-has (λ v. IdleRow (row v (pending_at 1 + 16 * d) 16)) main (block n a) (same-idle a e) (λ s v t. after-idle (block n a) s k t))
-        go m g (no e) =
-            idle-out m (base a) (fired main (block n a)).0 (pending_to (1 + c) (1 + d)) (λ z p q r s. e (omega (arith, x, fired-length main (block n a), k))) g.1
+      go : Dec (a ≡ 1 + c) → IdleRow (row (store n (base a) (fired main (block n a)).0) (pending_to (1 + c) (1 + d)) 16)
+      go (yes e) =
+          let f : pending_to (1 + c) (1 + d) ≡ base a + (pending_at 1 + 16 * d) = omega arith in
+          fired-has (λ m. IdleRow (row (store n (base a) m) (pending_to (1 + c) (1 + d)) 16)) main (block n a)
+          (rw (store-row n (base a) block_size) (h c d i j))
+          (λ s v t. rw f (after-idle a d s x j v t))
+      go (no e) =
+          idle-out n (base a) (fired main (block n a)).0 (pending_to (1 + c) (1 + d))
+          (λ z p q r s. e (omega (arith, x, fired-length main (block n a), length-take block_size (drop (base a) n)))) (h c d i j)
+  effect-idle (deliver a b) o c d i j =
+      let x = pair_of a b (not-false _ o) in
+      let k : length (row n (pending_to a b + 1) 15) ≤ 15 = omega (arith, length-take 15 (drop (pending_to a b + 1) n)) in
+      let m : List ℤ = store n (heard_from b a + 1) (row n (pending_to a b + 1) 15) in
+      idle-none (store m (age_of b a) (pos 0 ∷ [])) a b c d (simp length-store w) x.0 x.1 i j
+      (idle-out m (age_of b a) (pos 0 ∷ []) (pending_to (1 + c) (1 + d)) (λ z p q r s. no-age b a c d z x.0 j p q (omega arith))
+      (idle-out n (heard_from b a + 1) (row n (pending_to a b + 1) 15) (pending_to (1 + c) (1 + d)) (λ z p q r s. no_row b c d z j p q (omega arith) (omega arith)) (h c d i j)))
+  effect-idle (lose a b) o c d i j = let x = pair_of a b (not-false _ o) in idle-none n a b c d w x.0 x.1 i j (h c d i j)
+  effect-idle (link a b v) o c d i j =
+      let x = pair_of a b (both (is_device a && is_device b) (is_distance v) (not-false _ o)).0 in
+      idle-out n (heard_from a b) (v ∷ []) (pending_to (1 + c) (1 + d)) (λ z p q r s. no_row a c d z j p q (omega arith) (omega arith)) (h c d i j)
+  effect-idle (signal a s v) o c d i j = idle-out n (sensors_of a) _ (pending_to (1 + c) (1 + d)) (λ z p q r s. no_row a c d z j p q (omega arith) (omega arith)) (h c d i j)
 
 pub idle-kept : (main : Expr) (n : List ℤ) (e : Event) → length n ≡ network_size → Idle n → Idle (do_event main n e).0
-idle-kept main n e l h c d i j =
-    (event-keeps {Q = Of c d} (record {
-      apart = λ y lo vs p. off c d i j y lo vs p.0 p.1 p.3;
-      lit = λ a w. off c d i j a (sensors_of a) (pos w ∷ []) (omega arith) (omega arith) (λ u. omega arith);
-      nothing = λ a b x y. kept c d i j (pending_to a b) no_message (λ m g. idle-none m a b c d g.0 x y i j g.1);
-      round = round-idle c d i j main n l (h c d i j);
-    }) e (l, h c d i j)).1
+unfolding plan
+idle-kept main n e l h = go (eqb (refusal n e) 0) refl
+  where
+    go : (b : Bool) → eqb (refusal n e) 0 ≡ b → Idle (do_event main n e).0
+    go true q = rw q (effect-idle main n l h e (in-range n e (eqb-true (refusal n e) 0 q)))
+    go false q = rw q h
 
 -- ---- a sound network has it
 slot-mark : (a : ℕ) (l : List ℤ) (b i : ℕ) (z : ℤ) → b < devices → 1 ≤ i → i < 16 → get_or l (pending_at (1 + b)) (pos 0) ≡ pos 0 → cell_sound a l (pending_at (1 + b) + i) z ≡ true → z ≡ mark
-unfolding cell_sound keeps_rules pending_sound
+unfolding cell_sound pending_sound
 slot-mark a l b i z h p k e q =
     let j : ℕ = pending_at (1 + b) + i in
     let r : (j - pending_at 1) / 16 + 1 ≡ 1 + b = omega arith in
@@ -136,7 +144,7 @@ slot-mark a l b i z h p k e q =
     let other = ne_eqb j sensors_at (λ v. omega arith) in
     let pending = le-ltb j (pending_at 1) (omega arith) in
     let before = lt-ltb j (age_at 1) (omega arith) in
-    let t = rw (above, other, pending, before, r, s, ne_eqb i 0 (λ v. omega arith), none, or-true (eqb (1 + b) a)) at (both (keeps_rules a l j z) (gone_sound l j z) q).0 in
+    let t = rw (above, other, pending, before, r, s, ne_eqb i 0 (λ v. omega arith), none, or-true (eqb (1 + b) a)) at q in
     eq_z-same z mark (sym (or-false (eq_z z mark)) ∙ t)
 
 pub idle-sound : (n : List ℤ) → soundness n ≡ (0, 0) → Idle n

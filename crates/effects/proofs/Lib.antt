@@ -3,6 +3,5 @@ mod Stores
 pub mod Refusals
 pub mod Digit
 pub mod Variables
-mod Kept
 pub mod Lit
 pub mod Idle

@@ -1,25 +1,26 @@
 -- What `signal` asks of a sensors' cell: a sound network has it for every device, and every event keeps it. Assumes nothing.
 use mathlib.Core.Path.{◌≡◌, refl, ap}
-use mathlib.Core.Bool.{Bool, true, false, cond}
+use mathlib.Core.Bool.{Bool, true, false, cond, ◌&&◌}
 use mathlib.Core.List.{List, [], ◌∷◌}
 use mathlib.Core.Option.{Option, none, some}
 use Prim.Native.Nat.{ℕ, zero, suc, ◌+◌, ◌*◌, ◌-◌, ◌≤◌, ◌<◌}
 use lib.ListN.{length, get_or, take, drop, length-take, length-drop, get_or-eq_default}
 use lib.Seq.{get_or-take, get_or-drop, drop-drop}
-use lib.IntN.{ℤ, pos}
+use lib.IntN.{ℤ, pos, nat_abs}
 use Rattle.program.specs.Tree.{Expr}
-use Rattle.network.specs.Cells.{row}
-use Rattle.network.specs.Network.{sensors_at, presence_at, block_size, network_size, base, no_message, keeps_rules, gone_sound, cell_sound, first_not, placed, lowest_unsound, unsound_at, soundness}
-use Rattle.event.specs.Event.{Event}
-use Rattle.event.specs.Step.{sensors_of, pending_to, block, do_event}
+use Rattle.network.specs.Cells.{row, store, write}
+use Rattle.network.specs.Network.{sensors_at, block_size, network_size, base, no_message, is_distance, cell_sound, first_not, placed, lowest_unsound, unsound_at, soundness}
+use Rattle.event.specs.Event.{Event, fire, deliver, lose, link, signal}
+use Rattle.event.specs.Step.{sensors_of, heard_from, pending_to, age_of, block, is_device, out_of_range, digit_set, refusal, effect, plan, do_event}
 use lib.Dec.{eqb, ltb}
 use lib.Signed.{le_z}
-use borrow.Author.Tests.{le-leb, eqb-true, ltb-true, ltb-false}
+use borrow.Author.Tests.{not-false, le-leb, eqb-true, ltb-true, ltb-false}
 use native.Mathlib.Nat.{zero-add, add-zero}
 use native.Mathlib.Omega.{arith}
 use Rattle.network.proofs.Stores.{store-has}
+use Rattle.event.proofs.Devices.{pair_of}
 use Rattle.decide.proofs.Picks.{both}
-use Rattle.effects.proofs.Kept.{Keeps, event-keeps}
+use Rattle.effects.proofs.Refusals.{in-range}
 use Rattle.round.specs.Round.{fired}
 use Rattle.round.proofs.After.{fired-length}
 use Rattle.effects.specs.Does.{Lit}
@@ -36,34 +37,43 @@ inside x y j h e = omega arith
 met : (c y : ℕ) → base y ≤ sensors_of c → sensors_of c < base y + block_size → sensors_of c - base y ≡ sensors_at
 met c y p q = inside (c - 1) (y - 1) (sensors_of c - base y) (omega arith) (omega arith)
 
--- of device c
-abbrev Of : ℕ → List ℤ → Type 0
-Of c m = NotBelow (get_or m (sensors_of c) (pos 0))
-
-module _ (c : ℕ) where
-  -- a row of device y's cells that its sensors' cell is not among
-  off : (y lo : ℕ) (vs : List ℤ) → base y ≤ lo → lo + length vs ≤ base y + block_size → (lo ≤ sensors_of y → lo + length vs ≤ sensors_of y) → Keeps (Of c) lo vs
-  off y lo vs p q f m h = store-has NotBelow m lo vs (sensors_of c) (pos 0) h (λ u v. let e = met c y (omega arith) (omega arith) in absurd (omega (arith, f (omega arith))))
-
-  lit : (a w : ℕ) → Keeps (Of c) (sensors_of a) (pos w ∷ [])
-  lit a w m h = store-has NotBelow m (sensors_of a) (pos w ∷ []) (sensors_of c) (pos 0) h (λ p q. let e : sensors_of c - sensors_of a ≡ 0 = omega arith in rw e (le-leb 0 w (omega arith)))
-
-  round-lit : (main : Expr) (n : List ℤ) → Of c n → (a : ℕ) → Keeps (Of c) (base a) (fired main (block n a)).0
-  round-lit main n h a m g =
-      store-has NotBelow m (base a) (fired main (block n a)).0 (sensors_of c) (pos 0) g
-      (λ p q.
-      let e : sensors_of c - base a ≡ sensors_at = met c a p (omega (arith, fired-length main (block n a), length-take presence_at (drop (base a) n))) in
-      let f : base a + sensors_at ≡ sensors_of c = omega arith in
-      rw (e, fired-sensors main (block n a), get_or-take presence_at (drop (base a) n) sensors_at (pos 0) (omega arith), get_or-drop (base a) n sensors_at (pos 0), f) h)
+effect-lit : (main : Expr) (n : List ℤ) (e : Event) → out_of_range e ≡ false → length n ≡ network_size → Lit n → Lit (write n (effect main n e).0)
+effect-lit main n (fire a) o l h c =
+    store-has NotBelow n (base a) (fired main (block n a)).0 (sensors_of c) (pos 0) (h c)
+    (λ p q.
+    let e : sensors_of c - base a ≡ sensors_at = met c a p (omega (arith, fired-length main (block n a), length-take block_size (drop (base a) n))) in
+    let f : base a + sensors_at ≡ sensors_of c = omega arith in
+    rw (e, fired-sensors main (block n a), get_or-take block_size (drop (base a) n) sensors_at (pos 0) (omega arith), get_or-drop (base a) n sensors_at (pos 0), f) (h c))
+effect-lit main n (deliver a b) o l h c =
+    let d = pair_of a b (not-false _ o) in
+    let m : List ℤ = store n (heard_from b a + 1) (row n (pending_to a b + 1) 15) in
+    store-has NotBelow (store m (age_of b a) (pos 0 ∷ [])) (pending_to a b) no_message (sensors_of c) (pos 0)
+    (store-has NotBelow m (age_of b a) (pos 0 ∷ []) (sensors_of c) (pos 0)
+    (store-has NotBelow n (heard_from b a + 1) (row n (pending_to a b + 1) 15) (sensors_of c) (pos 0) (h c)
+    (λ p q.
+    let k : length (row n (pending_to a b + 1) 15) ≤ 15 = omega (arith, length-take 15 (drop (pending_to a b + 1) n)) in
+    absurd (omega (arith, met c b (omega arith) (omega arith)))))
+    (λ p q. absurd (omega (arith, met c b (omega arith) (omega arith)))))
+    (λ p q. absurd (omega (arith, met c a (omega arith) (omega arith))))
+effect-lit main n (lose a b) o l h c =
+    let d = pair_of a b (not-false _ o) in
+    store-has NotBelow n (pending_to a b) no_message (sensors_of c) (pos 0) (h c) (λ p q. absurd (omega (arith, met c a (omega arith) (omega arith))))
+effect-lit main n (link a b d) o l h c =
+    let t = both (is_device a && is_device b) (is_distance d) (not-false _ o) in
+    let k = pair_of a b t.0 in
+    store-has NotBelow n (heard_from a b) (d ∷ []) (sensors_of c) (pos 0) (h c) (λ p q. absurd (omega (arith, met c a (omega arith) (omega arith))))
+effect-lit main n (signal a s v) o l h c =
+    let w : ℕ = digit_set s v (nat_abs (get_or n (sensors_of a) (pos 0))) in
+    store-has NotBelow n (sensors_of a) (pos w ∷ []) (sensors_of c) (pos 0) (h c)
+    (λ p q. let e : sensors_of c - sensors_of a ≡ 0 = omega arith in rw e (le-leb 0 w (omega arith)))
 
 pub lit-kept : (main : Expr) (n : List ℤ) (e : Event) → length n ≡ network_size → Lit n → Lit (do_event main n e).0
-lit-kept main n e l h c =
-    event-keeps {Q = Of c} (record {
-      apart = λ y lo vs p. off c y lo vs p.0 p.1 p.2;
-      lit = lit c;
-      nothing = λ a b x y. off c a (pending_to a b) no_message (omega arith) (omega arith) (λ u. omega arith);
-      round = λ a x. round-lit c main n (h c) a;
-    }) e (h c)
+unfolding plan
+lit-kept main n e l h = go (eqb (refusal n e) 0) refl
+  where
+    go : (b : Bool) → eqb (refusal n e) 0 ≡ b → Lit (do_event main n e).0
+    go true q = rw q (effect-lit main n e (in-range n e (eqb-true (refusal n e) 0 q)) l h)
+    go false q = rw q h
 
 -- ---- a sound network has it
 both-none : (b : Bool) (x : Option ℕ) (k : ℕ) → cond b x (some k) ≡ none → (b ≡ true) × (x ≡ none)
@@ -94,8 +104,8 @@ block_none a (suc k) n (suc i) q h =
     rw (e, drop-drop (i * block_size) block_size n, f) at (block_none (suc a) k (drop block_size n) i r (omega arith))
 
 sensors-sound : (a : ℕ) (b : List ℤ) (z : ℤ) → cell_sound a b sensors_at z ≡ true → le_z (pos 0) z ≡ true
-unfolding cell_sound keeps_rules
-sensors-sound a b z q = (both (le_z (pos 0) z) (le_z z (pos 65535)) (both (keeps_rules a b sensors_at z) (gone_sound b sensors_at z) q).0).0
+unfolding cell_sound
+sensors-sound a b z q = (both (le_z (pos 0) z) (le_z z (pos 65535)) q).0
 
 none-unsound : (o : Option ℕ) → unsound_at o ≡ (0, 0) → o ≡ none
 none-unsound none q = refl

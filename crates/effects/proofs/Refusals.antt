@@ -1,7 +1,7 @@
 -- An event that is refused and one that is not: what it does, from the tests. Assumes nothing.
 use mathlib.Core.Path.{◌≡◌, refl, ap, ◌∙◌}
 use mathlib.Core.Bool.{Bool, true, false, ◌&&◌}
-use mathlib.Core.List.{List, ◌∷◌}
+use mathlib.Core.List.{List, [], ◌∷◌}
 use Prim.Native.Nat.{ℕ}
 use native.Mathlib.Omega.{arith}
 use lib.IntN.{ℤ, pos}
@@ -13,7 +13,7 @@ use Rattle.program.specs.Table.{first_of}
 use Rattle.program.specs.Tree.{Expr}
 use Rattle.network.specs.Cells.{write}
 use Rattle.event.specs.Event.{Event, deliver, lose}
-use Rattle.event.specs.Step.{is_device, out_of_range, to_itself, names_gone, brings_present, nothing_pending, refusal, effect, plan}
+use Rattle.event.specs.Step.{is_device, out_of_range, to_itself, nothing_pending, refusal, effect, plan}
 use Rattle.event.proofs.Devices.{Pair, pair_of}
 use Rattle.effects.specs.declared.Answer.{Answer}
 use Rattle.effects.specs.Does.{answer_of, Does}
@@ -28,21 +28,13 @@ module _ (n : List ℤ) (e : Event) where
   unfolding refusal first_of
   is-15 o t = rw (o, t)
 
-  pub is-21 : out_of_range e ≡ false → to_itself e ≡ false → names_gone n e ≡ true → refusal n e ≡ 21
+  pub is-16 : out_of_range e ≡ false → to_itself e ≡ false → nothing_pending n e ≡ true → refusal n e ≡ 16
   unfolding refusal first_of
-  is-21 o t g = rw (o, t, g)
+  is-16 o t p = rw (o, t, p)
 
-  pub is-22 : out_of_range e ≡ false → to_itself e ≡ false → names_gone n e ≡ false → brings_present n e ≡ true → refusal n e ≡ 22
+  pub is-0 : out_of_range e ≡ false → to_itself e ≡ false → nothing_pending n e ≡ false → refusal n e ≡ 0
   unfolding refusal first_of
-  is-22 o t g b = rw (o, t, g, b)
-
-  pub is-16 : out_of_range e ≡ false → to_itself e ≡ false → names_gone n e ≡ false → brings_present n e ≡ false → nothing_pending n e ≡ true → refusal n e ≡ 16
-  unfolding refusal first_of
-  is-16 o t g b p = rw (o, t, g, b, p)
-
-  pub is-0 : out_of_range e ≡ false → to_itself e ≡ false → names_gone n e ≡ false → brings_present n e ≡ false → nothing_pending n e ≡ false → refusal n e ≡ 0
-  unfolding refusal first_of
-  is-0 o t g b p = rw (o, t, g, b, p)
+  is-0 o t p = rw (o, t, p)
 
   -- the network stays, and the refusal is the answer
   pub turned : (r : Answer) (k : ℕ) → refusal n e ≡ k → (k ≡ 0 → ⊥) → answer_of r ≡ (pos k, pos 0) → Does n e r n
@@ -61,14 +53,14 @@ module _ (n : List ℤ) (e : Event) where
   carried-out r m p w q = λ main. record { network = rw p (w main); answer = rw p (q main) }
 
 -- an event that is not refused
-first-false : (o : Bool) (rows : List (Bool × ℕ)) → first_of ((o, 14) ∷ rows) ≡ 0 → o ≡ false
+first-false : (o t p : Bool) → first_of ((o, 14) ∷ (t, 15) ∷ (p, 16) ∷ []) ≡ 0 → o ≡ false
 unfolding first_of
-first-false true rows q = absurd (omega arith)
-first-false false rows q = refl
+first-false true t p q = absurd (omega arith)
+first-false false t p q = refl
 
 pub in-range : (n : List ℤ) (e : Event) → refusal n e ≡ 0 → out_of_range e ≡ false
 unfolding refusal
-in-range n e q = first-false (out_of_range e) _ q
+in-range n e q = first-false _ _ _ q
 
 pub two-devices : (n : List ℤ) (a b : ℕ) → refusal n (deliver a b) ≡ 0 → Pair a b
 two-devices n a b q = pair_of a b (not-false (is_device a && is_device b) (in-range n (deliver a b) q))

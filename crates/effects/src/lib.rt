@@ -1,10 +1,10 @@
-// Delivery, loss, link and signal on the network's cells, each exactly as the crate event defines it, and whether a fire is refused.
+// Every event but fire, on the network's cells, each exactly as the crate event defines it.
 ghost use Rattle.std.specs.Prelude.{◌≡◌, true, ◌+◌, ◌<◌, ◌≤◌, length, get_or, pos};
 ghost use Rattle.std.specs.Int.Signed.{le_z};
 ghost use Rattle.network.specs.Cells.{row, store};
 ghost use Rattle.network.specs.Network.{network_size};
 ghost use Rattle.event.specs.Event.{fire, deliver, lose, link, signal};
-ghost use Rattle.event.specs.Step.{refusal, sensors_of, digit_set};
+ghost use Rattle.event.specs.Step.{out_of_range, refusal, sensors_of, digit_set};
 ghost use Rattle.effects.specs.Does.{answer_of, Does};
 
 // What an event is answered: 0 and the value, or a refusal and 0.
@@ -14,7 +14,7 @@ pub struct Answer {
     pub value: i32,
 }
 
-pub fn answered(code: i32) -> Answer
+fn answered(code: i32) -> Answer
     ensures { answer_of result ≡ (code, pos 0) }
 {
     Answer {
@@ -23,18 +23,11 @@ pub fn answered(code: i32) -> Answer
     }
 }
 
-// The refusal of a fire, 0 where there is none.
-pub fn fire_refusal(net: &[i32], a: u8) -> i32
-    requires { length net.now ≡ network_size }
-    ensures { result ≡ pos (refusal net.now (fire a)) }
+// Whether a fire of a is refused.
+pub fn fire_refused(a: u8) -> bool
+    ensures { result ≡ out_of_range (fire a) }
 {
-    if !cells::is_device(a) {
-        return 14;
-    }
-    if cells::gone(net, a) {
-        return 21;
-    }
-    0
+    !cells::is_device(a)
 }
 
 // The fifteen cells from `to` become the fifteen from `from`, by way of cells of its own: both rows are in one slice.
@@ -57,9 +50,6 @@ fn message_refusal(net: &[i32], a: u8, b: u8) -> i32
     }
     if a == b {
         return 15;
-    }
-    if cells::gone(net, b) {
-        return 21;
     }
     let at = cells::pending_to(a, b);
     if net[at] == 0 {
@@ -112,12 +102,6 @@ pub fn link(net: &mut [i32], a: u8, b: u8, distance: i32) -> Answer
     if a == b {
         return answered(15);
     }
-    if cells::gone(&*net, a) {
-        return answered(21);
-    }
-    if cells::gone(&*net, b) {
-        return answered(21);
-    }
     let at = cells::heard_from(a, b);
     net[at] = distance;
     answered(0)
@@ -146,9 +130,6 @@ pub fn signal(net: &mut [i32], a: u8, sensor: u8, switch: u8) -> Answer
     }
     if switch > 1 {
         return answered(14);
-    }
-    if cells::gone(&*net, a) {
-        return answered(21);
     }
     let at = cells::sensors_of(a);
     net[at] = digit_set(net[at] as u32, sensor, switch) as i32;

@@ -7,4 +7,3 @@ pub mod ShownRefused
 pub mod ShownEffects
 pub mod ShownCalls
 pub mod ShownRuns
-pub mod ShownLeaving

@@ -6,7 +6,7 @@ use lib.ListN.{replicate}
 use lib.IntN.{ℤ, pos}
 use Rattle.program.specs.Check.{Verdict}
 use Rattle.network.specs.Cells.{write}
-use Rattle.network.specs.Network.{fresh, soundness, heard_sound, pending_sound, keeps_rules, gone_sound, cell_sound, first_not, lowest_unsound}
+use Rattle.network.specs.Network.{fresh, soundness, heard_sound, pending_sound, cell_sound, first_not, lowest_unsound}
 use Rattle.event.specs.Event.{Entry}
 use Rattle.event.specs.Step.{sensors_of}
 use Rattle.event.specs.Calls.{first_refusal, answer_width, flat, room, Result, one_event, run}
@@ -60,7 +60,7 @@ program-first n list space = (refl, refl, refl)
 network-second : (list : List ℕ) (space : List ℤ) → (run seven [] list space ≡ refused (11, 0) [] space) × (one_event seven [] list space ≡ refused (11, 0) [] space)
     × (run seven unsound list space ≡ refused (11, 16) unsound space)
     × (one_event seven unsound list space ≡ refused (11, 16) unsound space)
-unfolding calling heard_sound pending_sound keeps_rules gone_sound cell_sound first_not lowest_unsound soundness
+unfolding calling heard_sound pending_sound cell_sound first_not lowest_unsound soundness
 network-second list space = (refl, refl, refl, refl)
 
 -- then the list

@@ -1,17 +1,16 @@
 -- What each event stores, and where, by computation. Assumes nothing.
 use mathlib.Core.Path.{◌≡◌, refl}
-use mathlib.Core.Bool.{false}
 use mathlib.Core.List.{List, [], ◌∷◌, ◌++◌, map}
-use Prim.Native.Nat.{ℕ, ◌+◌, ◌*◌}
+use Prim.Native.Nat.{◌+◌, ◌*◌}
 use lib.ListN.{replicate}
 use lib.IntN.{ℤ, pos}
 use Rattle.number.specs.Number.{mark, add, div}
 use Rattle.program.specs.Tree.{Expr, constant, variable, operator, sense, rep, nbr, fold_op}
 use Rattle.network.specs.Cells.{row, store, write}
-use Rattle.network.specs.Network.{sensors_at, heard_at, pending_at, age_at, presence_at, block_size, base, copies, fresh_block, fresh}
+use Rattle.network.specs.Network.{sensors_at, heard_at, pending_at, age_at, block_size, base, copies, fresh_block, fresh}
 use Rattle.round.specs.Round.{fired}
 use Rattle.event.specs.Event.{fire, deliver, lose, link, signal}
-use Rattle.event.specs.Step.{Answer, digit_set, sensors_of, heard_from, pending_to, age_of, presence_of, gone, plan, do_event}
+use Rattle.event.specs.Step.{Answer, digit_set, sensors_of, heard_from, pending_to, age_of, plan, do_event}
 use Rattle.event.proofs.ShownOpened.{doing, neg}
 
 -- "Device a owns .. cells from (a - 1) × ..": the cells that an event names stand in a's block, at b's place (the numbers themselves: network/ShownFresh)
@@ -19,21 +18,20 @@ places : (sensors_of 1 ≡ sensors_at) × (sensors_of 2 ≡ block_size + sensors
     × (heard_from 1 1 ≡ heard_at 1) × (heard_from 1 2 ≡ heard_at 2) × (heard_from 2 1 ≡ block_size + heard_at 1) × (heard_from 16 15 ≡ 15 * block_size + heard_at 15)
     × (pending_to 1 1 ≡ pending_at 1) × (pending_to 1 2 ≡ pending_at 2) × (pending_to 2 1 ≡ block_size + pending_at 1) × (pending_to 16 15 ≡ 15 * block_size + pending_at 15)
     × (age_of 1 1 ≡ age_at 1) × (age_of 1 2 ≡ age_at 2) × (age_of 2 1 ≡ block_size + age_at 1) × (age_of 16 15 ≡ 15 * block_size + age_at 15)
-    × (presence_of 1 ≡ presence_at) × (presence_of 2 ≡ block_size + presence_at) × (presence_of 16 ≡ 15 * block_size + presence_at)
-places = (refl, refl, refl, refl, refl, refl, refl, refl, refl, refl, refl, refl, refl, refl, refl, refl, refl, refl)
+places = (refl, refl, refl, refl, refl, refl, refl, refl, refl, refl, refl, refl, refl, refl, refl)
 
 -- An event that is not refused answers "0 and the value (0 unless fire)"
 abbrev silent : Answer
 silent = (pos 0, pos 0)
 
 -- "0x13 link a, b, distance; the mark ends it. Nothing else changes.": one cell of a's, in every network
-links : (main : Expr) (n : List ℤ) → ((a : ℕ) → gone n a ≡ false) → (do_event main n (link 1 2 (pos 7)) ≡ (store n (heard_from 1 2) (pos 7 ∷ []), silent))
+links : (main : Expr) (n : List ℤ) → (do_event main n (link 1 2 (pos 7)) ≡ (store n (heard_from 1 2) (pos 7 ∷ []), silent))
     × (do_event main n (link 2 1 (pos 7)) ≡ (store n (heard_from 2 1) (pos 7 ∷ []), silent))
     × (do_event main n (link 16 15 (pos 1000000)) ≡ (store n (heard_from 16 15) (pos 1000000 ∷ []), silent))
     × (do_event main n (link 1 2 (pos 0)) ≡ (store n (heard_from 1 2) (pos 0 ∷ []), silent))
     × (do_event main n (link 1 2 mark) ≡ (store n (heard_from 1 2) (mark ∷ []), silent))
 unfolding doing
-links main n here = rw (here 1, here 2, here 15, here 16) (refl, refl, refl, refl, refl)
+links main n = (refl, refl, refl, refl, refl)
 
 -- x with its binary digit s made v, the others kept: 5 is the sensors 0 and 2, 34818 the sensors 1, 11 and 15
 digits-set : (map (λ s. digit_set s 1 5) (0 ∷ 1 ∷ 2 ∷ 3 ∷ 15 ∷ []) ≡ 5 ∷ 7 ∷ 5 ∷ 13 ∷ 32773 ∷ [])
@@ -113,12 +111,11 @@ unfolding doing
 last-devices main = (refl, refl, refl)
 
 -- "0x10 fire a: the round", of a's cells, which are stored with its answer
-fires : (main : Expr) (n : List ℤ) → ((a : ℕ) → gone n a ≡ false)
-    → (plan main n (fire 1) ≡ ((base 1, (fired main (row n (base 1) presence_at)).0) ∷ [], (fired main (row n (base 1) presence_at)).1))
-    × (plan main n (fire 2) ≡ ((base 2, (fired main (row n (base 2) presence_at)).0) ∷ [], (fired main (row n (base 2) presence_at)).1))
-    × (plan main n (fire 16) ≡ ((base 16, (fired main (row n (base 16) presence_at)).0) ∷ [], (fired main (row n (base 16) presence_at)).1))
+fires : (main : Expr) (n : List ℤ) → (plan main n (fire 1) ≡ ((base 1, (fired main (row n (base 1) block_size)).0) ∷ [], (fired main (row n (base 1) block_size)).1))
+    × (plan main n (fire 2) ≡ ((base 2, (fired main (row n (base 2) block_size)).0) ∷ [], (fired main (row n (base 2) block_size)).1))
+    × (plan main n (fire 16) ≡ ((base 16, (fired main (row n (base 16) block_size)).0) ∷ [], (fired main (row n (base 16) block_size)).1))
 unfolding doing
-fires main n here = rw (here 1, here 2, here 16) (refl, refl, refl)
+fires main n = (refl, refl, refl)
 
 -- its value, sensor 1 plus the 6 heard in slot 2, which is then one round older; its message to device 1, to which it has a link, in place of the one that was pending: 5, kept in
 -- variable 3, in slot 2

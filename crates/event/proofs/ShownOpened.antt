@@ -12,7 +12,7 @@ use Rattle.program.specs.Check.{lowest, offending, sort_offends, misread_in, cal
 use Rattle.network.specs.Network.{copies, fresh}
 use Rattle.round.specs.Round.{operated, folded, sensed, heard_in, measured, reps, erased, eval, round, message, joined, fades, older, faded, after, fired}
 use Rattle.event.specs.Event.{Entry, read_as, read_from, read_list, read_one}
-use Rattle.event.specs.Step.{digit_set, refusal, forgotten, plan}
+use Rattle.event.specs.Step.{digit_set, refusal, plan}
 use Rattle.event.specs.Calls.{first_refusal, tests, performed, carried_out, one_event, run}
 
 -- a list read
@@ -27,7 +27,7 @@ firing n = n
 
 -- an event done
 unfoldable pub doing : ℕ → ℕ
-unfolding firing first_of digit_set refusal forgotten plan
+unfolding firing first_of digit_set refusal plan
 doing n = n
 
 -- a program loaded, and checked

@@ -7,34 +7,34 @@ use lib.ListN.{replicate}
 use lib.IntN.{pos}
 use Rattle.number.specs.Number.{mark, floor, inf}
 use Rattle.wire.specs.Wire.{Fields, end, cut, whole, fields_of}
-use Rattle.event.specs.Event.{Event, fire, deliver, lose, link, signal, leave, come_back, event_of, read_as, Read, entries, refused_at, before, read_from, read_list, read_one, entries_of, list_verdict}
+use Rattle.event.specs.Event.{Event, fire, deliver, lose, link, signal, event_of, read_as, Read, entries, refused_at, before, read_from, read_list, read_one, entries_of, list_verdict}
 use Rattle.event.proofs.ShownOpened.{reading, neg, entry, bytes}
 
--- a body under the tags 0x0f to 0x17
+-- a body under the tags 0x0f to 0x15
 abbrev tagged : List ℕ → List (Option Event)
-tagged body = map (λ tag. read_as tag body) (0x0f ∷ 0x10 ∷ 0x11 ∷ 0x12 ∷ 0x13 ∷ 0x14 ∷ 0x15 ∷ 0x16 ∷ 0x17 ∷ [])
+tagged body = map (λ tag. read_as tag body) (0x0f ∷ 0x10 ∷ 0x11 ∷ 0x12 ∷ 0x13 ∷ 0x14 ∷ 0x15 ∷ [])
 
--- "0x10 fire a", L5: "Event 0x15 with device a", "Event 0x16 brings a back": one body byte, and no fewer
-one_byte : (tagged (7 ∷ []) ≡ none ∷ some (fire 7) ∷ replicate 4 none ++ some (leave 7) ∷ some (come_back 7) ∷ none ∷ []) × (tagged [] ≡ replicate 9 none)
+-- "0x10 fire a": one body byte, and no fewer
+one_byte : (tagged (7 ∷ []) ≡ none ∷ some (fire 7) ∷ replicate 5 none) × (tagged [] ≡ replicate 7 none)
 unfolding reading
 one_byte = (refl, refl)
 
 -- "0x11 deliver a, b"; "0x12 lose a, b"
-two_bytes : tagged (7 ∷ 8 ∷ []) ≡ none ∷ none ∷ some (deliver 7 8) ∷ some (lose 7 8) ∷ replicate 5 none
+two_bytes : tagged (7 ∷ 8 ∷ []) ≡ none ∷ none ∷ some (deliver 7 8) ∷ some (lose 7 8) ∷ replicate 3 none
 unfolding reading
 two_bytes = refl
 
 -- "0x14 signal a, sensor, 0 or 1"
-three-bytes : tagged (7 ∷ 8 ∷ 9 ∷ []) ≡ replicate 5 none ++ some (signal 7 8 9) ∷ replicate 3 none
+three-bytes : tagged (7 ∷ 8 ∷ 9 ∷ []) ≡ replicate 5 none ++ some (signal 7 8 9) ∷ none ∷ []
 unfolding reading
 three-bytes = refl
 
 -- "0x13 link a, b, distance (4 bytes)", and no event has four, five, seven or eight
-six-bytes : (tagged (7 ∷ 8 ∷ 1 ∷ 2 ∷ 3 ∷ 4 ∷ []) ≡ replicate 4 none ++ some (link 7 8 (pos 0x01020304)) ∷ replicate 4 none)
-    × (tagged (7 ∷ 8 ∷ 1 ∷ 2 ∷ []) ≡ replicate 9 none)
-    × (tagged (7 ∷ 8 ∷ 1 ∷ 2 ∷ 3 ∷ []) ≡ replicate 9 none)
-    × (tagged (7 ∷ 8 ∷ 1 ∷ 2 ∷ 3 ∷ 4 ∷ 5 ∷ []) ≡ replicate 9 none)
-    × (tagged (7 ∷ 8 ∷ 1 ∷ 2 ∷ 3 ∷ 4 ∷ 5 ∷ 6 ∷ []) ≡ replicate 9 none)
+six-bytes : (tagged (7 ∷ 8 ∷ 1 ∷ 2 ∷ 3 ∷ 4 ∷ []) ≡ replicate 4 none ++ some (link 7 8 (pos 0x01020304)) ∷ none ∷ none ∷ [])
+    × (tagged (7 ∷ 8 ∷ 1 ∷ 2 ∷ []) ≡ replicate 7 none)
+    × (tagged (7 ∷ 8 ∷ 1 ∷ 2 ∷ 3 ∷ []) ≡ replicate 7 none)
+    × (tagged (7 ∷ 8 ∷ 1 ∷ 2 ∷ 3 ∷ 4 ∷ 5 ∷ []) ≡ replicate 7 none)
+    × (tagged (7 ∷ 8 ∷ 1 ∷ 2 ∷ 3 ∷ 4 ∷ 5 ∷ 6 ∷ []) ≡ replicate 7 none)
 unfolding reading
 six-bytes = (refl, refl, refl, refl, refl)
 
@@ -79,14 +79,13 @@ placed s = read_list s ∷ read_list (fires ++ s) ∷ read_list (delivers ++ (fi
 abbrev refused : List Read
 refused = map refused_at (0 ∷ 1 ∷ 2 ∷ 0 ∷ 1 ∷ [])
 
-unknown-tag : (placed (bytes 0x17 (1 ∷ [])) ≡ refused) × (placed (bytes 1 (1 ∷ [])) ≡ refused) × (placed (bytes 0x17 []) ≡ refused)
+unknown-tag : (placed (bytes 0x15 (1 ∷ [])) ≡ refused) × (placed (bytes 1 (1 ∷ [])) ≡ refused) × (placed (bytes 0x15 []) ≡ refused)
 unfolding reading
 unknown-tag = (refl, refl, refl)
 
 wrong-length : (placed (bytes 0x10 []) ≡ refused) × (placed (bytes 0x10 (1 ∷ 2 ∷ [])) ≡ refused) × (placed (bytes 0x13 (1 ∷ 2 ∷ 0 ∷ 0 ∷ 0 ∷ [])) ≡ refused)
-    × (placed (bytes 0x15 []) ≡ refused) × (placed (bytes 0x16 (1 ∷ 2 ∷ [])) ≡ refused)
 unfolding reading
-wrong-length = (refl, refl, refl, refl, refl)
+wrong-length = (refl, refl, refl)
 
 -- a tag alone, one byte of its length, one byte of the body too few, a length whose high byte is 1
 abbrev cut_short : List ℕ → List Read
@@ -128,9 +127,9 @@ first-bad : map one (
     (0x10 ∷ [])
     ∷ (0x10 ∷ 0 ∷ [])
     ∷ (0x10 ∷ 0 ∷ 1 ∷ [])
-    ∷ bytes 0x17 (1 ∷ [])
+    ∷ bytes 0x15 (1 ∷ [])
     ∷ bytes 0x10 []
-    ∷ (bytes 0x17 (1 ∷ []) ++ fires)
+    ∷ (bytes 0x15 (1 ∷ []) ++ fires)
     ∷ (bytes 0x10 (1 ∷ 2 ∷ []) ++ fires)
     ∷ (bytes 0x10 [] ++ (0x10 ∷ []))
     ∷ []) ≡ replicate 8 (refused_at 0)
@@ -144,7 +143,7 @@ unfolding reading
 verdicts = (refl, refl)
 
 -- no other tag is an event: those that 02 will add, and those whose low bits are an event's
-other-tags : (map (λ t. read_as t (7 ∷ [])) (0x18 ∷ 0x17 ∷ 0x30 ∷ 0x90 ∷ []) ≡ replicate 4 none)
+other-tags : (map (λ t. read_as t (7 ∷ [])) (0x16 ∷ 0x17 ∷ 0x30 ∷ 0x90 ∷ []) ≡ replicate 4 none)
     × (map (λ t. read_as t (7 ∷ 8 ∷ [])) (0x16 ∷ 0x17 ∷ 0x31 ∷ 0x92 ∷ []) ≡ replicate 4 none)
     × (map (λ t. read_as t (7 ∷ 8 ∷ 9 ∷ [])) (0x16 ∷ 0x17 ∷ 0x34 ∷ 0x94 ∷ []) ≡ replicate 4 none)
 unfolding reading
@@ -152,7 +151,7 @@ other-tags = (refl, refl, refl)
 
 -- lists of any length, and places of any number
 any-length : (k : ℕ) (rest : Fields) → (read_from k (whole 0x10 (1 ∷ []) rest) ≡ before (entry 0x10 (1 ∷ [])) (read_from (suc k) rest))
-    × (read_from k (whole 0x17 (1 ∷ []) rest) ≡ refused_at k) × (read_from k cut ≡ refused_at k) × (read_from k end ≡ entries [])
+    × (read_from k (whole 0x15 (1 ∷ []) rest) ≡ refused_at k) × (read_from k cut ≡ refused_at k) × (read_from k end ≡ entries [])
 unfolding reading
 any-length k rest = (refl, refl, refl, refl)
 

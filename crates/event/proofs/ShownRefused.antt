@@ -7,14 +7,14 @@ use lib.IntN.{ℤ, pos}
 use Rattle.number.specs.Number.{mark, floor, inf}
 use Rattle.program.specs.Tree.{Expr}
 use Rattle.network.specs.Cells.{write}
-use Rattle.network.specs.Network.{fresh}
+use Rattle.network.specs.Network.{copies, fresh_block}
 use Rattle.event.specs.Event.{Event, fire, deliver, lose, link, signal}
 use Rattle.event.specs.Step.{pending_to, refusal, do_event}
 use Rattle.event.proofs.ShownOpened.{doing, neg}
 
--- messages are pending from 1 to 2 and from 3 to 1
+-- the cells of the devices 1 to 3: messages are pending from 1 to 2 and from 3 to 1
 abbrev network : List ℤ
-network = write fresh ((pending_to 1 2, pos 1 ∷ []) ∷ (pending_to 3 1, pos 1 ∷ []) ∷ [])
+network = write (copies 3 fresh_block) ((pending_to 1 2, pos 1 ∷ []) ∷ (pending_to 3 1, pos 1 ∷ []) ∷ [])
 
 abbrev codes : List Event → List ℕ
 codes es = map (refusal network) es

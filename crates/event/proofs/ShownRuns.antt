@@ -8,7 +8,7 @@ use Rattle.number.specs.Number.{add, div}
 use Rattle.program.specs.Tree.{Expr, constant, variable, operator, sense, rep}
 use Rattle.order.specs.Order.{last_net, answers}
 use Rattle.network.specs.Cells.{store, write}
-use Rattle.network.specs.Network.{base, copies, fresh_block, fresh, soundness}
+use Rattle.network.specs.Network.{base, copies, fresh_block, soundness}
 use Rattle.event.specs.Event.{Entry}
 use Rattle.event.specs.Step.{sensors_of, heard_from, pending_to, age_of, step}
 use Rattle.event.specs.Calls.{flat, Result, performed, one_event, run}
@@ -71,29 +71,29 @@ any-run : (main : Expr) (n : List ℤ) (l : List Entry) (space : List ℤ) → p
 unfolding calling
 any-run main n l space = refl
 
--- Calls of the program that is the constant 7, on a fresh network: "0 and 0 when it did its work"
+-- Calls of the program that is the constant 7, on any sound network: "0 and 0 when it did its work"
 abbrev seven : List ℕ
 seven = bytes 1 (0 ∷ 0 ∷ 0 ∷ 0 ∷ 7 ∷ []) ++ bytes 3 (0 ∷ [])
 
 abbrev links : ℕ → ℕ → ℕ → List ℕ
 links a b d = bytes 0x13 (a ∷ b ∷ 0 ∷ 0 ∷ 0 ∷ d ∷ [])
 
-module _ (sound : soundness fresh ≡ (0, 0)) where
-  runs : (run seven fresh (links 1 2 7 ++ (links 0 2 7 ++ links 2 1 8)) (replicate 7 (pos 9))
-      ≡ done (store (store fresh (heard_from 1 2) (pos 7 ∷ [])) (heard_from 2 1) (pos 8 ∷ [])) (map pos (0 ∷ 0 ∷ 14 ∷ 0 ∷ 0 ∷ 0 ∷ 9 ∷ [])))
-      × (run seven fresh [] (pos 9 ∷ []) ≡ done fresh (pos 9 ∷ []))
-      × (run seven fresh [] [] ≡ done fresh [])
+module _ (n : List ℤ) (sound : soundness n ≡ (0, 0)) where
+  runs : (run seven n (links 1 2 7 ++ (links 0 2 7 ++ links 2 1 8)) (replicate 7 (pos 9))
+      ≡ done (store (store n (heard_from 1 2) (pos 7 ∷ [])) (heard_from 2 1) (pos 8 ∷ [])) (map pos (0 ∷ 0 ∷ 14 ∷ 0 ∷ 0 ∷ 0 ∷ 9 ∷ [])))
+      × (run seven n [] (pos 9 ∷ []) ≡ done n (pos 9 ∷ []))
+      × (run seven n [] [] ≡ done n [])
   unfolding calling
   runs = rw sound (refl, refl, refl)
 
-  fires : ((run seven fresh (bytes 0x10 (1 ∷ []) ++ (bytes 0x11 (2 ∷ 2 ∷ []) ++ bytes 0x10 (16 ∷ []))) (replicate 6 (pos 9))).space ≡ pos 0 ∷ pos 7 ∷ pos 15 ∷ pos 0 ∷ pos 0 ∷ pos 7 ∷ [])
-      × ((one_event seven fresh (bytes 0x10 (1 ∷ [])) (replicate 3 (pos 9))).space ≡ pos 0 ∷ pos 7 ∷ pos 9 ∷ [])
+  fires : ((run seven n (bytes 0x10 (1 ∷ []) ++ (bytes 0x11 (2 ∷ 2 ∷ []) ++ bytes 0x10 (16 ∷ []))) (replicate 6 (pos 9))).space ≡ pos 0 ∷ pos 7 ∷ pos 15 ∷ pos 0 ∷ pos 0 ∷ pos 7 ∷ [])
+      × ((one_event seven n (bytes 0x10 (1 ∷ [])) (replicate 3 (pos 9))).space ≡ pos 0 ∷ pos 7 ∷ pos 9 ∷ [])
   unfolding calling
   fires = rw sound (refl, refl)
 
   -- one event, and the run of a list of one
-  one-event : (one_event seven fresh (links 1 2 7) (replicate 3 (pos 9)) ≡ done (store fresh (heard_from 1 2) (pos 7 ∷ [])) (pos 0 ∷ pos 0 ∷ pos 9 ∷ []))
-      × (one_event seven fresh (links 1 2 7) (replicate 2 (pos 9)) ≡ run seven fresh (links 1 2 7) (replicate 2 (pos 9)))
-      × (one_event seven fresh (links 1 1 7) (replicate 2 (pos 9)) ≡ done fresh (pos 15 ∷ pos 0 ∷ []))
+  one-event : (one_event seven n (links 1 2 7) (replicate 3 (pos 9)) ≡ done (store n (heard_from 1 2) (pos 7 ∷ [])) (pos 0 ∷ pos 0 ∷ pos 9 ∷ []))
+      × (one_event seven n (links 1 2 7) (replicate 2 (pos 9)) ≡ run seven n (links 1 2 7) (replicate 2 (pos 9)))
+      × (one_event seven n (links 1 1 7) (replicate 2 (pos 9)) ≡ done n (pos 15 ∷ pos 0 ∷ []))
   unfolding calling
   one-event = rw sound (refl, refl, refl)

@@ -10,9 +10,6 @@ pub data Event : Type 0 where
   lose : ℕ → ℕ → Event
   link : ℕ → ℕ → ℤ → Event
   signal : ℕ → ℕ → ℕ → Event
-  -- L5: "Event 0x15 with device a", "Event 0x16 brings a back"
-  leave : ℕ → Event
-  come_back : ℕ → Event
 
 -- "An event is a field as in the program table, one body byte for each item but the distance": an event as it stands in a list, byte for byte
 pub record Entry : Type 0 where
@@ -22,7 +19,7 @@ pub record Entry : Type 0 where
 -- the event of a tag and a body, none where the tag is unknown or the length is wrong
 unfoldable pub read_as : ℕ → List ℕ → Option Event
 read_as tag [] = none
-read_as tag (a ∷ []) = cond (eqb tag 0x10) (some (fire a)) (cond (eqb tag 0x15) (some (leave a)) (cond (eqb tag 0x16) (some (come_back a)) none))
+read_as tag (a ∷ []) = cond (eqb tag 0x10) (some (fire a)) none
 read_as tag (a ∷ b ∷ []) = cond (eqb tag 0x11) (some (deliver a b)) (cond (eqb tag 0x12) (some (lose a b)) none)
 read_as tag (a ∷ b ∷ c ∷ []) = cond (eqb tag 0x14) (some (signal a b c)) none
 read_as tag (a ∷ b ∷ c ∷ d ∷ []) = none

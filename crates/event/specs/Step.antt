@@ -1,19 +1,19 @@
 -- What each event does to the network, and its answer. Definitions only: nothing is assumed.
-use Rattle.std.specs.Prelude.{Bool, false, not, cond, ◌&&◌, ◌||◌, List, [], ◌∷◌, ◌++◌, ℕ, zero, suc, ◌+◌, ◌-◌, ◌*◌, ◌/◌, ◌%◌, get_or, replicate, eqb, leb, ℤ, pos, nat_abs}
-use Rattle.number.specs.Number.{mark, eq_z}
+use Rattle.std.specs.Prelude.{Bool, false, not, cond, ◌&&◌, List, [], ◌∷◌, ℕ, zero, suc, ◌+◌, ◌*◌, ◌/◌, ◌%◌, get_or, eqb, leb, ℤ, pos, nat_abs}
+use Rattle.number.specs.Number.{eq_z}
 use Rattle.field.specs.Field.{devices}
 use Rattle.program.specs.Table.{first_of}
 use Rattle.program.specs.Tree.{Expr}
 use Rattle.network.specs.Cells.{row, write}
-use Rattle.network.specs.Network.{base, sensors_at, heard_at, pending_at, age_at, presence_at, no_message, is_distance}
+use Rattle.network.specs.Network.{block_size, base, sensors_at, heard_at, pending_at, age_at, no_message, is_distance}
 use Rattle.round.specs.Round.{fired}
-use Rattle.event.specs.Event.{Event, fire, deliver, lose, link, signal, leave, come_back, Entry, event_of}
+use Rattle.event.specs.Event.{Event, fire, deliver, lose, link, signal, Entry, event_of}
 
 -- "Each answer is two numbers: 0 and the value (0 unless fire), or a refusal and 0 (17: the node that divided)."
 abbrev pub Answer : Type 0
 Answer = ℤ × ℤ
 
--- the cells of device a: its sensors, the row heard from b, the row pending to b, the age of what it heard from b, whether it is present
+-- the cells of device a: its sensors, the row heard from b, the row pending to b, the age of what it heard from b
 abbrev pub sensors_of : ℕ → ℕ
 sensors_of a = base a + sensors_at
 
@@ -25,9 +25,6 @@ pending_to a b = base a + pending_at b
 
 abbrev pub age_of : ℕ → ℕ → ℕ
 age_of a b = base a + age_at b
-
-abbrev pub presence_of : ℕ → ℕ
-presence_of a = base a + presence_at
 
 -- x with its binary digit s made v, where v is 0 or 1
 unfoldable pub digit_set : ℕ → ℕ → ℕ → ℕ
@@ -44,8 +41,6 @@ out_of_range (deliver a b) = not (is_device a && is_device b)
 out_of_range (lose a b) = not (is_device a && is_device b)
 out_of_range (link a b d) = not (is_device a && is_device b && is_distance d)
 out_of_range (signal a s v) = not (is_device a && leb s 15 && leb v 1)
-out_of_range (leave a) = not (is_device a)
-out_of_range (come_back a) = not (is_device a)
 
 -- "a = b"
 abbrev pub to_itself : Event → Bool
@@ -54,32 +49,6 @@ to_itself (deliver a b) = eqb a b
 to_itself (lose a b) = eqb a b
 to_itself (link a b d) = eqb a b
 to_itself (signal a s v) = false
-to_itself (leave a) = false
-to_itself (come_back a) = false
-
--- L5: "present (1) or gone (0)"
-abbrev pub gone : List ℤ → ℕ → Bool
-gone n a = eq_z (get_or n (presence_of a) (pos 0)) (pos 0)
-
--- L5: "An event naming a gone device gets 21, except 0x16 and a delivery or loss from it to a present one": of a delivery and a loss the hearer decides
-abbrev pub names_gone : List ℤ → Event → Bool
-names_gone n (fire a) = gone n a
-names_gone n (deliver a b) = gone n b
-names_gone n (lose a b) = gone n b
-names_gone n (link a b d) = gone n a || gone n b
-names_gone n (signal a s v) = gone n a
-names_gone n (leave a) = gone n a
-names_gone n (come_back a) = false
-
--- L5: "bringing back a present one gets 22"
-abbrev pub brings_present : List ℤ → Event → Bool
-brings_present n (fire a) = false
-brings_present n (deliver a b) = false
-brings_present n (lose a b) = false
-brings_present n (link a b d) = false
-brings_present n (signal a s v) = false
-brings_present n (leave a) = false
-brings_present n (come_back a) = not (gone n a)
 
 -- "nothing pending"
 abbrev pub none_pending : List ℤ → ℕ → ℕ → Bool
@@ -91,39 +60,17 @@ nothing_pending n (deliver a b) = none_pending n a b
 nothing_pending n (lose a b) = none_pending n a b
 nothing_pending n (link a b d) = false
 nothing_pending n (signal a s v) = false
-nothing_pending n (leave a) = false
-nothing_pending n (come_back a) = false
 
--- the event rows of the refusal table, but for 17. L5, of 21 and 22: "both checked after 15 and before 16"
+-- the event rows of the refusal table, but for 17
 unfoldable pub refusal : List ℤ → Event → ℕ
-refusal n e = first_of ((out_of_range e, 14) ∷ (to_itself e, 15) ∷ (names_gone n e, 21) ∷ (brings_present n e, 22) ∷ (nothing_pending n e, 16) ∷ [])
+refusal n e = first_of ((out_of_range e, 14) ∷ (to_itself e, 15) ∷ (nothing_pending n e, 16) ∷ [])
 
 -- what is stored where, and the answer
 abbrev pub Plan : Type 0
 Plan = List (ℕ × List ℤ) × Answer
 
--- the cells of a that a round is about: all but the last, cell 545, which no round reads or stores
 abbrev pub block : List ℤ → ℕ → List ℤ
-block n a = row n (base a) presence_at
-
--- L5: "a's variables, heard rows, distances and ages become absent and its sensors 0", and it is gone
-abbrev pub departing : ℕ → List (ℕ × List ℤ)
-departing a =
-    (base a, replicate 16 mark)
-    ∷ (sensors_of a, pos 0 ∷ [])
-    ∷ (heard_from a 1, replicate (pending_at 1 - heard_at 1) mark)
-    ∷ (age_of a 1, replicate devices mark)
-    ∷ (presence_of a, pos 0 ∷ [])
-    ∷ []
-
--- L5: "every other device forgets its row, distance and age for a; messages pending to a go": what b stores. (Of a itself these cells are so in a sound network.)
-abbrev pub forgetting : ℕ → ℕ → List (ℕ × List ℤ)
-forgetting a b = (heard_from b a, replicate 16 mark) ∷ (age_of b a, mark ∷ []) ∷ (pending_to b a, no_message) ∷ []
-
--- what the first k devices store
-unfoldable pub forgotten : ℕ → ℕ → List (ℕ × List ℤ)
-forgotten a zero = []
-forgotten a (suc k) = forgotten a k ++ forgetting a (suc k)
+block n a = row n (base a) block_size
 
 -- what an event that is not refused does
 abbrev pub effect : Expr → List ℤ → Event → Plan
@@ -135,10 +82,6 @@ effect main n (lose a b) = ((pending_to a b, no_message) ∷ [], (pos 0, pos 0))
 -- "link a, b, distance; the mark ends it. Nothing else changes."
 effect main n (link a b d) = ((heard_from a b, d ∷ []) ∷ [], (pos 0, pos 0))
 effect main n (signal a s v) = ((sensors_of a, pos (digit_set s v (nat_abs (get_or n (sensors_of a) (pos 0)))) ∷ []) ∷ [], (pos 0, pos 0))
--- L5: "Messages pending from a stay, as [DROP] has it."
-effect main n (leave a) = (departing a ++ forgotten a devices, (pos 0, pos 0))
--- L5: "brings a back, otherwise as it stands"
-effect main n (come_back a) = ((presence_of a, pos 1 ∷ []) ∷ [], (pos 0, pos 0))
 
 unfoldable pub plan : Expr → List ℤ → Event → Plan
 plan main n e = cond (eqb (refusal n e) 0) (effect main n e) ([], (pos (refusal n e), pos 0))

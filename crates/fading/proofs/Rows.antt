@@ -12,7 +12,7 @@ use lib.IntN.{ℤ, pos}
 use Rattle.number.specs.Number.{mark}
 use Rattle.field.specs.Field.{devices, each}
 use Rattle.network.specs.Cells.{row, store}
-use Rattle.network.specs.Network.{heard_at, age_at, presence_at}
+use Rattle.network.specs.Network.{heard_at, age_at, block_size}
 use Rattle.network.proofs.Stores.{store_out, store-more, row-row}
 use Rattle.cells.proofs.Rows.{row-length, store-row, row_out, joined_length, joined-rows}
 use Rattle.field.proofs.Each.{from-same}
@@ -64,14 +64,14 @@ age-more n net at b v h g e q =
     ∙ sym (get_or-take devices (drop at n) b (pos 0) g ∙ get_or-drop at n b (pos 0))) ∙ sym (get_or-map older (row n at devices) b (pos 0))) q
 
 -- ---- the device's heard rows and ages, from its first cell on
-module _ (n : List ℤ) (at : ℕ) (h : at + presence_at ≤ length n) where
-  cell : (j k : ℕ) → j < presence_at → k ≡ at + j → get_or (row n at presence_at) j (pos 0) ≡ get_or n k (pos 0)
-  cell j k l e = get_or-take presence_at (drop at n) j (pos 0) l ∙ get_or-drop at n j (pos 0) ∙ ap (λ (c : ℕ). get_or n c (pos 0)) (sym e)
+module _ (n : List ℤ) (at : ℕ) (h : at + block_size ≤ length n) where
+  cell : (j k : ℕ) → j < block_size → k ≡ at + j → get_or (row n at block_size) j (pos 0) ≡ get_or n k (pos 0)
+  cell j k l e = get_or-take block_size (drop at n) j (pos 0) l ∙ get_or-drop at n j (pos 0) ∙ ap (λ (c : ℕ). get_or n c (pos 0)) (sym e)
 
   age-at : (j : ℕ) → j < devices → get_or (row n (at + age_at 1) devices) j (pos 0) ≡ get_or n (at + age_at 1 + j) (pos 0)
   age-at j l = get_or-take devices (drop (at + age_at 1) n) j (pos 0) l ∙ get_or-drop (at + age_at 1) n j (pos 0)
 
-  faded-is : (j : ℕ) → j < devices → faded (row n at presence_at) (1 + j) ≡ row_of n (at + heard_at 1) (row n (at + age_at 1) devices) (1 + j)
+  faded-is : (j : ℕ) → j < devices → faded (row n at block_size) (1 + j) ≡ row_of n (at + heard_at 1) (row n (at + age_at 1) devices) (1 + j)
   unfolding faded
   faded-is j l =
       let i : 1 + j - 1 ≡ j = omega arith in
@@ -79,16 +79,16 @@ module _ (n : List ℤ) (at : ℕ) (h : at + presence_at ≤ length n) where
       rw (
         cell (heard_at (1 + j) + 0) (at + heard_at 1 + 16 * j) (omega arith) (omega arith),
         cell (age_at (1 + j)) (at + age_at 1 + j) (omega arith) (omega arith),
-        row-row n at presence_at (heard_at (1 + j) + 1) 15 (omega arith),
+        row-row n at block_size (heard_at (1 + j) + 1) 15 (omega arith),
         e,
         i,
         age-at j l,
       )
 
   -- where none fades the rows stay
-  pub none-faded : NoneFades n (at + age_at 1) devices → n ≡ store n (at + heard_at 1) (joined (each (faded (row n at presence_at))))
+  pub none-faded : NoneFades n (at + age_at 1) devices → n ≡ store n (at + heard_at 1) (joined (each (faded (row n at block_size))))
   none-faded f =
-      sym (ap (store n (at + heard_at 1)) (joined-rows n (faded (row n at presence_at)) 16 1 16 (at + heard_at 1) (λ j l. faded-is j l ∙ same j l)) ∙ store-row n (at + heard_at 1) (16 * 16))
+      sym (ap (store n (at + heard_at 1)) (joined-rows n (faded (row n at block_size)) 16 1 16 (at + heard_at 1) (λ j l. faded-is j l ∙ same j l)) ∙ store-row n (at + heard_at 1) (16 * 16))
     where
       same : (j : ℕ) → j < devices → row_of n (at + heard_at 1) (row n (at + age_at 1) devices) (1 + j) ≡ row n (at + heard_at 1 + 16 * j) 16
       same j l =
@@ -97,21 +97,21 @@ module _ (n : List ℤ) (at : ℕ) (h : at + presence_at ≤ length n) where
 
   -- else each is as its age says
   pub some-faded : (z m : List ℤ) → z ≡ row n (at + age_at 1) devices → m ≡ store n (at + heard_at 1) (joined (each (row_of n (at + heard_at 1) z)))
-      → m ≡ store n (at + heard_at 1) (joined (each (faded (row n at presence_at))))
+      → m ≡ store n (at + heard_at 1) (joined (each (faded (row n at block_size))))
   some-faded z m e q =
-      let f = from-same (faded (row n at presence_at)) (row_of n (at + heard_at 1) (row n (at + age_at 1) devices)) 16 1 faded-is in
+      let f = from-same (faded (row n at block_size)) (row_of n (at + heard_at 1) (row n (at + age_at 1) devices)) 16 1 faded-is in
       q ∙ rw (e, f)
 
-  pub faded-length : length (joined (each (faded (row n at presence_at)))) ≡ 16 * 16
+  pub faded-length : length (joined (each (faded (row n at block_size)))) ≡ 16 * 16
   faded-length =
-      joined_length (faded (row n at presence_at)) 16 1 16
+      joined_length (faded (row n at block_size)) 16 1 16
       (λ j l. ap length (faded-is j l) ∙ row-length-of n (at + heard_at 1) (row n (at + age_at 1) devices) (1 + j) (omega arith) (omega arith) (omega arith))
 
-  pub ages-length : length (map older (ages (row n at presence_at))) ≡ devices
-  ages-length = length-map (ages (row n at presence_at)) older ∙ row-length (row n at presence_at) (age_at 1) devices (rw (row-length n at presence_at h) (omega arith))
+  pub ages-length : length (map older (ages (row n at block_size))) ≡ devices
+  ages-length = length-map (ages (row n at block_size)) older ∙ row-length (row n at block_size) (age_at 1) devices (rw (row-length n at block_size h) (omega arith))
 
   -- the ages behind them
-  pub aged : (m m' : List ℤ) → m ≡ store n (at + heard_at 1) (joined (each (faded (row n at presence_at)))) → m' ≡ store m (at + age_at 1) (map older (row m (at + age_at 1) devices)) → Older n at m'
+  pub aged : (m m' : List ℤ) → m ≡ store n (at + heard_at 1) (joined (each (faded (row n at block_size)))) → m' ≡ store m (at + age_at 1) (map older (row m (at + age_at 1) devices)) → Older n at m'
   aged m m' e q =
       let k = faded-length in
       record {
@@ -119,7 +119,7 @@ module _ (n : List ℤ) (at : ℕ) (h : at + presence_at ≤ length n) where
             q
             ∙ rw (
               e,
-              row_out n (at + heard_at 1) (joined (each (faded (row n at presence_at)))) (at + age_at 1) devices (pos 0) (λ c x y u v. omega arith),
-              row-row n at presence_at (age_at 1) devices (omega arith),
+              row_out n (at + heard_at 1) (joined (each (faded (row n at block_size)))) (at + age_at 1) devices (pos 0) (λ c x y u v. omega arith),
+              row-row n at block_size (age_at 1) devices (omega arith),
             );
       }

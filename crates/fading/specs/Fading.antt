@@ -3,7 +3,7 @@ use Rattle.std.specs.Prelude.{◌≡◌, false, cond, List, ◌∷◌, map, ℕ,
 use Rattle.number.specs.Number.{mark}
 use Rattle.field.specs.Field.{each}
 use Rattle.network.specs.Cells.{row, store}
-use Rattle.network.specs.Network.{heard_at, age_at, presence_at}
+use Rattle.network.specs.Network.{heard_at, age_at, block_size}
 use Rattle.round.specs.Round.{joined, fades, older, ages, faded}
 
 -- the row at `at`, of the age z, after this round: the round's `faded`, by where the row stands
@@ -16,4 +16,4 @@ pub record NoneFades (n : List ℤ) (at k : ℕ) : Type 0 where
 
 -- n' is n after a round of the device whose cells are from `at` on, as to what it heard
 pub record Older (n : List ℤ) (at : ℕ) (n' : List ℤ) : Type 0 where
-  pub network : n' ≡ store (store n (at + heard_at 1) (joined (each (faded (row n at presence_at))))) (at + age_at 1) (map older (ages (row n at presence_at)))
+  pub network : n' ≡ store (store n (at + heard_at 1) (joined (each (faded (row n at block_size))))) (at + age_at 1) (map older (ages (row n at block_size)))

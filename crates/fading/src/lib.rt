@@ -2,7 +2,7 @@
 ghost use Rattle.std.specs.Prelude.{◌≡◌, false, not, map, ◌+◌, ◌-◌, ◌*◌, ◌≤◌, ◌<◌, eqb, pos, length, get_or};
 ghost use Rattle.field.specs.Field.{devices, each};
 ghost use Rattle.network.specs.Cells.{row, store};
-ghost use Rattle.network.specs.Network.{heard_at, presence_at};
+ghost use Rattle.network.specs.Network.{heard_at, block_size};
 ghost use Rattle.round.specs.Round.{joined, fades, older, faded};
 ghost use Rattle.fading.specs.Fading.{row_after, NoneFades, Older};
 
@@ -80,8 +80,8 @@ fn age_all(net: &mut [i32], at: usize)
 
 // The rows of the device whose cells are from `at` on; they are walked only if one fades.
 fn fade_heard(net: &mut [i32], at: usize)
-    requires { at + presence_at ≤ length net.old }
-    ensures { net.new ≡ store net.old (at + heard_at 1) (joined (each (faded (row net.old at presence_at)))) }
+    requires { at + block_size ≤ length net.old }
+    ensures { net.new ≡ store net.old (at + heard_at 1) (joined (each (faded (row net.old at block_size)))) }
 {
     if !any_fades(&*net, at + layout::AGES) {
         return;
@@ -93,7 +93,7 @@ fn fade_heard(net: &mut [i32], at: usize)
 
 // The device whose cells are from `at` on has completed a round.
 pub fn pass_round(net: &mut [i32], at: usize)
-    requires { at + presence_at ≤ length net.old }
+    requires { at + block_size ≤ length net.old }
     ensures { Older net.old at net.new }
 {
     fade_heard(net, at);

@@ -1,5 +1,6 @@
 -- A device's messages and cells after a round, and a fire from its round's outcome. Assumes nothing.
 use mathlib.Core.Path.{◌≡◌, refl, sym, ◌∙◌}
+use mathlib.Core.Bool.{true, false}
 use mathlib.Core.List.{List, [], ◌∷◌, map}
 use Prim.Native.Nat.{ℕ, ◌+◌, ◌-◌, ◌*◌, ◌≤◌, ◌<◌}
 use native.Mathlib.Nat.{add-zero}
@@ -14,15 +15,16 @@ use Rattle.number.specs.Number.{mark}
 use Rattle.field.specs.Field.{devices, each}
 use Rattle.program.specs.Tree.{Expr}
 use Rattle.network.specs.Cells.{row, store, write}
-use Rattle.network.specs.Network.{base, heard_at, pending_at, age_at, presence_at, no_message}
+use Rattle.network.specs.Network.{block_size, base, heard_at, pending_at, age_at, no_message}
 use Rattle.round.specs.Round.{State, Outcome, done, fault, own, arguments, eval, round, message, joined, older, ages, faded, after, fired_by, fired}
 use Rattle.round.proofs.Own.{own-heard, own-variables}
 use Rattle.event.specs.Event.{fire}
-use Rattle.event.specs.Step.{pending_to, block, refusal, effect, plan}
+use Rattle.event.specs.Step.{pending_to, out_of_range, block, effect, plan}
 use Rattle.apply.specs.State.{state_size, state_of, fault_of, Gives}
 use Rattle.arith.proofs.Signs.{eq_z-yes, eq_z-no}
 use Rattle.effects.specs.declared.Answer.{Answer}
 use Rattle.effects.specs.Does.{answer_of, Acts, IdleRow, Idle}
+use Rattle.effects.proofs.Refusals.{is-14, is-0, turned}
 use Rattle.fire.specs.Fires.{at_first, IdleRows, Puts}
 use Rattle.field.proofs.Each.{from-same}
 use Rattle.cells.proofs.Rows.{row-length, store-row, joined_length, write-into}
@@ -49,12 +51,12 @@ pub idle-behind : (n m vs : List ℤ) (lo p : ℕ) → m ≡ store n lo vs → l
 idle-behind n m vs lo p e h i = rw e (idle-out n lo vs p (λ c x y z w. omega arith) i)
 
 -- of one of a device whose cells are from `at` on, where what it heard is a round older
-pub idle-older : (n m : List ℤ) (at b : ℕ) → at + presence_at ≤ length n → b < devices → Older n at m → IdleRow (row n (at + pending_at 1 + 16 * b) 16) → IdleRow (row m (at + pending_at 1 + 16 * b) 16)
+pub idle-older : (n m : List ℤ) (at b : ℕ) → at + block_size ≤ length n → b < devices → Older n at m → IdleRow (row n (at + pending_at 1 + 16 * b) 16) → IdleRow (row m (at + pending_at 1 + 16 * b) 16)
 idle-older n m at b h l o i =
     let p : ℕ = at + pending_at 1 + 16 * b in
     rw o.network
-    (idle-out (store n (at + heard_at 1) (joined (each (faded (row n at presence_at))))) (at + age_at 1) (map older (ages (row n at presence_at))) p (λ c x y z w. omega arith)
-    (idle-out n (at + heard_at 1) (joined (each (faded (row n at presence_at)))) p (λ c x y z w. omega (arith, faded-length n at h)) i))
+    (idle-out (store n (at + heard_at 1) (joined (each (faded (row n at block_size))))) (at + age_at 1) (map older (ages (row n at block_size))) p (λ c x y z w. omega arith)
+    (idle-out n (at + heard_at 1) (joined (each (faded (row n at block_size)))) p (λ c x y z w. omega (arith, faded-length n at h)) i))
 
 -- of those of device a
 pub idle-rows : (n : List ℤ) (a : ℕ) → Idle n → 1 ≤ a → a ≤ devices → IdleRows n (base a + pending_at 1)
@@ -104,19 +106,22 @@ module _ (z : ℤ) (k : ℕ) (f : SFits w32 z) (e : z ≡ pos (k + 1)) where
 
 -- ---- a fire of a
 module _ (main : Expr) (n : List ℤ) (a : ℕ) where
-  planned : refusal n (fire a) ≡ 0 → plan main n (fire a) ≡ effect main n (fire a)
+  pub refused : (r : Answer) → out_of_range (fire a) ≡ true → answer_of r ≡ (pos 14, pos 0) → Acts main n (fire a) r n
+  refused r o q = turned n (fire a) r 14 (is-14 n (fire a) o) (λ z. omega arith) q main
+
+  planned : out_of_range (fire a) ≡ false → plan main n (fire a) ≡ effect main n (fire a)
   unfolding plan
-  planned o = rw o
+  planned o = rw (is-0 n (fire a) o refl refl)
 
-  enough : base a + presence_at ≤ length n → pending_at 1 ≤ length (block n a)
-  enough h = omega (arith, row-length n (base a) presence_at h)
+  enough : base a + block_size ≤ length n → pending_at 1 ≤ length (block n a)
+  enough h = omega (arith, row-length n (base a) block_size h)
 
-  round_is : base a + presence_at ≤ length n → round main (block n a) ≡ eval (own (block n a)) main (arguments (pos 0) (pos 0) (pos 0) (pos 0)) (at_first (own (block n a)))
+  round_is : base a + block_size ≤ length n → round main (block n a) ≡ eval (own (block n a)) main (arguments (pos 0) (pos 0) (pos 0) (pos 0)) (at_first (own (block n a)))
   unfolding round
   round_is h = rw (own-variables (block n a) (enough h))
 
   -- the cells of a after its round, stored where they are
-  stored-whole : (s : State) → base a + presence_at ≤ length n → length s.variables ≡ 16 → length s.sent ≡ 16
+  stored-whole : (s : State) → base a + block_size ≤ length n → length s.variables ≡ 16 → length s.sent ≡ 16
       → store n (base a) (after (block n a) s) ≡ write n (
       (base a + heard_at 1, joined (each (faded (block n a))))
       ∷ (base a + age_at 1, map older (ages (block n a)))
@@ -125,14 +130,14 @@ module _ (main : Expr) (n : List ℤ) (a : ℕ) where
       ∷ [])
   unfolding after
   stored-whole s h v w =
-      let k : length (block n a) ≡ presence_at = row-length n (base a) presence_at h in
+      let k : length (block n a) ≡ block_size = row-length n (base a) block_size h in
       let m = joined_length (message (block n a) s) 16 1 16 (λ b _. message-length (block n a) s (1 + b) w) in
       let ws : List (ℕ × List ℤ) =
       (heard_at 1, joined (each (faded (block n a)))) ∷ (age_at 1, map older (ages (block n a))) ∷ (0, s.variables) ∷ (pending_at 1, joined (each (message (block n a) s))) ∷ [] in
       write-into n (block n a) (base a) ws (omega (arith, faded-length n (base a) h), (omega (arith, ages-length n (base a) h), (omega arith, (omega arith, tt))))
-      ∙ rw (store-row n (base a) presence_at, add-zero (base a), messages-same (block n a) s (enough h))
+      ∙ rw (store-row n (base a) block_size, add-zero (base a), messages-same (block n a) s (enough h))
 
-  module _ (h : base a + presence_at ≤ length n) (here : List ℤ) (lent : here ≡ own (block n a)) (r : ℤ) (first st : List ℤ) (x : Answer) (go : refusal n (fire a) ≡ 0)
+  module _ (h : base a + block_size ≤ length n) (here : List ℤ) (lent : here ≡ own (block n a)) (r : ℤ) (first st : List ℤ) (x : Answer) (go : out_of_range (fire a) ≡ false)
       (e : state_of first ≡ at_first here) (g : Gives (eval here main (arguments (pos 0) (pos 0) (pos 0) (pos 0)) (state_of first)) r st) where
     gives : Gives (round main (block n a)) r st
     gives = let q = rw e at g in let p = rw lent at q in rw (round_is h) p
@@ -150,4 +155,4 @@ module _ (main : Expr) (n : List ℤ) (a : ℕ) where
     unfolding fired
     fails z q =
         let w = stopped (round main (block n a)) r st (block n a) gives z in
-        record { network = rw (planned go, w.is) (sym (store-row n (base a) presence_at)); answer = rw (planned go, w.is) (q w.node w.says) }
+        record { network = rw (planned go, w.is) (sym (store-row n (base a) block_size)); answer = rw (planned go, w.is) (q w.node w.says) }

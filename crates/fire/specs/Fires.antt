@@ -4,7 +4,7 @@ use Rattle.number.specs.Number.{mark}
 use Rattle.field.specs.Field.{devices, each}
 use Rattle.program.specs.Table.{node_limit}
 use Rattle.network.specs.Cells.{row, write}
-use Rattle.network.specs.Network.{network_size, heard_at, pending_at, age_at, presence_at}
+use Rattle.network.specs.Network.{network_size, block_size, heard_at, pending_at, age_at}
 use Rattle.round.specs.Round.{State, message, joined, older, ages, faded}
 use Rattle.words.specs.Form.{number_forms}
 use Rattle.words.specs.Word.{form, word}
@@ -27,8 +27,8 @@ IdleRows n at = (b : ℕ) → b < devices → IdleRow (row n (at + 16 * b) 16)
 -- what a round that left st, as a state, stores in the device's cells from `at` on: what it heard, a round older, its variables and its messages
 pub record Puts (n : List ℤ) (at : ℕ) (here st n' : List ℤ) : Type 0 where
   pub network : n' ≡ write n (
-      (at + heard_at 1, joined (each (faded (row n at presence_at))))
-      ∷ (at + age_at 1, map older (ages (row n at presence_at)))
+      (at + heard_at 1, joined (each (faded (row n at block_size))))
+      ∷ (at + age_at 1, map older (ages (row n at block_size)))
       ∷ (at, (state_of st).variables)
       ∷ (at + pending_at 1, joined (each (message here (state_of st))))
       ∷ [])

@@ -1,11 +1,11 @@
 // The event fire, on the network's cells, exactly as the crate event defines it.
 //
-// `here`: what a round reads, the device's cells but its messages and its presence, with the ages where the messages begin. `st`: the round's state (crate apply), lent by
-// the run and made anew for each round.
+// `here`: what a round reads, the device's cells but its messages, with the ages where those begin. `st`: the round's state (crate apply), lent by the run and made anew
+// for each round.
 ghost use Rattle.std.specs.Prelude.{◌≡◌, ◌+◌, ◌*◌, ◌<◌, ◌≤◌, length};
 ghost use Rattle.field.specs.Field.{devices, each};
 ghost use Rattle.network.specs.Cells.{row, store};
-ghost use Rattle.network.specs.Network.{pending_at, presence_at};
+ghost use Rattle.network.specs.Network.{block_size, pending_at};
 ghost use Rattle.round.specs.Round.{own, message, joined};
 ghost use Rattle.event.specs.Event.{fire};
 ghost use Rattle.apply.specs.State.{state_size, state_of};
@@ -16,8 +16,8 @@ ghost use Rattle.heard.specs.Measures.{own_size};
 
 // What a round reads of the device's cells, which are from `at` on.
 fn own_cells(net: &[i32], at: usize) -> [i32; layout::OWN]
-    requires { at + presence_at ≤ length net.now }
-    ensures { result ≡ own (row net.now at presence_at) }
+    requires { at + block_size ≤ length net.now }
+    ensures { result ≡ own (row net.now at block_size) }
 {
     let mut here = [0; layout::OWN];
     cells::copy(&mut here, 0, net, at, layout::PENDING);
@@ -74,7 +74,7 @@ fn put_messages(net: &mut [i32], at: usize, here: &[i32; layout::OWN], st: &[i32
 
 // The device's cells from `at` on after a round that left `st`.
 fn put_round(net: &mut [i32], at: usize, here: &[i32; layout::OWN], st: &[i32])
-    requires { (at + presence_at ≤ length net.old) × (length st.now ≡ state_size) × IdleRows net.old (at + pending_at 1) }
+    requires { (at + block_size ≤ length net.old) × (length st.now ≡ state_size) × IdleRows net.old (at + pending_at 1) }
     ensures { Puts net.old at here.now st.now net.new }
 {
     fading::pass_round(net, at);
@@ -82,7 +82,7 @@ fn put_round(net: &mut [i32], at: usize, here: &[i32; layout::OWN], st: &[i32])
     put_messages(net, at + layout::PENDING, here, st);
 }
 
-// Device a's round. A fault or a refusal changes nothing.
+// Device a's round. A fault, or a number of no device, changes nothing.
 pub fn fire(
     t: &[u64; layout::NODES],
     u: &[u16; layout::NODES],
@@ -94,9 +94,8 @@ pub fn fire(
     requires { MayFire t.now u.now main net.old }
     ensures { Acts (tree_at t.now main) net.old (fire a) result net.new }
 {
-    let refusal = effects::fire_refusal(&*net, a);
-    if refusal != 0 {
-        return effects::answered(refusal);
+    if effects::fire_refused(a) {
+        return effects::Answer { code: 14, value: 0 };
     }
     let at = ((a as usize) - 1) * layout::BLOCK;
     let here = own_cells(&*net, at);

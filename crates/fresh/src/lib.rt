@@ -14,7 +14,6 @@ fn fresh_block() -> [i32; layout::BLOCK]
         block[layout::PENDING + layout::ROW * b] = 0;
         b += 1;
     }
-    block[layout::PRESENCE] = 1;
     block
 }
 

@@ -10,7 +10,7 @@ pub const MARK: i32 = -2147483648;
 // Its 32 bits, as a program has a constant.
 pub const MARK_BITS: u32 = 2147483648;
 
-// A device's cells: its variables, then its sensors, a row heard from each sender, a row pending to each hearer, a row of ages, and whether it is present.
+// A device's cells: its variables, then its sensors, a row heard from each sender, a row pending to each hearer, a row of ages.
 pub const ROW: usize = 16;
 
 // Its slots, those behind its first cell.
@@ -28,10 +28,7 @@ pub const AGES: usize = PENDING + DEVICES * ROW;
 // The rows of a device: heard, pending, and that of the ages.
 pub const ROWS: usize = 2 * DEVICES + 1;
 
-// Whether it is present, 1, or gone, 0.
-pub const PRESENCE: usize = HEARD + ROWS * ROW;
-
-pub const BLOCK: usize = PRESENCE + 1;
+pub const BLOCK: usize = HEARD + ROWS * ROW;
 
 // What a round reads of them: all but the messages, with the ages where those begin.
 pub const OWN: usize = PENDING + DEVICES;

@@ -24,45 +24,31 @@ or_else P k p t f = go (eqb t k) refl
     go true e = subst P (sym (eqb-true t k e)) p
     go false e = f e
 
--- a tag of no event
-record Other (t : ℕ) : Type 0 where
-  pub no-10 : eqb t 0x10 ≡ false
-  pub no-11 : eqb t 0x11 ≡ false
-  pub no-12 : eqb t 0x12 ≡ false
-  pub no-13 : eqb t 0x13 ≡ false
-  pub no-14 : eqb t 0x14 ≡ false
-  pub no-15 : eqb t 0x15 ≡ false
-  pub no-16 : eqb t 0x16 ≡ false
-
-by-tag : (P : ℕ → Type 0) → P 0x10 → P 0x11 → P 0x12 → P 0x13 → P 0x14 → P 0x15 → P 0x16 → ((t : ℕ) → Other t → P t) → (t : ℕ) → P t
-by-tag P a b c d e f g o t =
-    or_else P 0x10 a t (λ p. or_else P 0x11 b t (λ q. or_else P 0x12 c t (λ r. or_else P 0x13 d t (λ u. or_else P 0x14 e t (λ v.
-    or_else P 0x15 f t (λ w. or_else P 0x16 g t (λ x.
-    o t (record { no-10 = p; no-11 = q; no-12 = r; no-13 = u; no-14 = v; no-15 = w; no-16 = x }))))))))
-
-unknown : (t len : ℕ) → Other t → known t len ≡ false
-unknown t len o = rw (o.no-10, o.no-11, o.no-12, o.no-13, o.no-14, o.no-15, o.no-16)
+pub by-tag : (P : ℕ → Type 0) → P 0x10 → P 0x11 → P 0x12 → P 0x13 → P 0x14
+    → ((t : ℕ) → eqb t 0x10 ≡ false → eqb t 0x11 ≡ false → eqb t 0x12 ≡ false → eqb t 0x13 ≡ false → eqb t 0x14 ≡ false → P t)
+    → (t : ℕ) → P t
+by-tag P a b c d e f t =
+    or_else P 0x10 a t (λ p. or_else P 0x11 b t (λ q. or_else P 0x12 c t (λ r. or_else P 0x13 d t (λ u. or_else P 0x14 e t (λ v. f t p q r u v)))))
 
 pub known_is : (s : List ℕ) (tag : ℕ) → is_event (read_as tag s) ≡ known tag (length s)
 unfolding read_as
-known_is [] = by-tag (λ t. false ≡ known t 0) refl refl refl refl refl refl refl (λ t o. sym (unknown t 0 o))
-known_is (a ∷ []) =
-    by-tag (λ t. is_event (read_as t (a ∷ [])) ≡ known t 1) refl refl refl refl refl refl refl (λ t o. rw (unknown t 1 o, o.no-10, o.no-15, o.no-16))
-known_is (a ∷ b ∷ []) =
-    by-tag (λ t. is_event (read_as t (a ∷ b ∷ [])) ≡ known t 2) refl refl refl refl refl refl refl (λ t o. rw (unknown t 2 o, o.no-11, o.no-12))
-known_is (a ∷ b ∷ c ∷ []) =
-    by-tag (λ t. is_event (read_as t (a ∷ b ∷ c ∷ [])) ≡ known t 3) refl refl refl refl refl refl refl (λ t o. rw (unknown t 3 o, o.no-14))
-known_is (a ∷ b ∷ c ∷ d ∷ []) = by-tag (λ t. false ≡ known t 4) refl refl refl refl refl refl refl (λ t o. sym (unknown t 4 o))
-known_is (a ∷ b ∷ c ∷ d ∷ e ∷ []) = by-tag (λ t. false ≡ known t 5) refl refl refl refl refl refl refl (λ t o. sym (unknown t 5 o))
+known_is [] = by-tag (λ t. is_event (read_as t []) ≡ known t 0) refl refl refl refl refl (λ t p q r u v. rw (p, q, r, u, v))
+known_is (a ∷ []) = by-tag (λ t. is_event (read_as t (a ∷ [])) ≡ known t 1) refl refl refl refl refl (λ t p q r u v. rw (p, q, r, u, v))
+known_is (a ∷ b ∷ []) = by-tag (λ t. is_event (read_as t (a ∷ b ∷ [])) ≡ known t 2) refl refl refl refl refl (λ t p q r u v. rw (p, q, r, u, v))
+known_is (a ∷ b ∷ c ∷ []) = by-tag (λ t. is_event (read_as t (a ∷ b ∷ c ∷ [])) ≡ known t 3) refl refl refl refl refl (λ t p q r u v. rw (p, q, r, u, v))
+known_is (a ∷ b ∷ c ∷ d ∷ []) = by-tag (λ t. false ≡ known t 4) refl refl refl refl refl (λ t p q r u v. rw (p, q, r, u, v))
+known_is (a ∷ b ∷ c ∷ d ∷ e ∷ []) = by-tag (λ t. false ≡ known t 5) refl refl refl refl refl (λ t p q r u v. rw (p, q, r, u, v))
 known_is (a ∷ b ∷ c ∷ d ∷ e ∷ f ∷ []) =
-    by-tag (λ t. is_event (read_as t (a ∷ b ∷ c ∷ d ∷ e ∷ f ∷ [])) ≡ known t 6) refl refl refl refl refl refl refl (λ t o. rw (unknown t 6 o, o.no-13))
+    by-tag (λ t. is_event (read_as t (a ∷ b ∷ c ∷ d ∷ e ∷ f ∷ [])) ≡ known t 6) refl refl refl refl refl (λ t p q r u v. rw (p, q, r, u, v))
 known_is (a ∷ b ∷ c ∷ d ∷ e ∷ f ∷ g ∷ s) =
     let n : ℕ = length (a ∷ b ∷ c ∷ d ∷ e ∷ f ∷ g ∷ s) in
-    let one : false ≡ eqb 1 n = sym (ne_eqb 1 n (λ h. omega arith)) in
-    let two : false ≡ eqb 2 n = sym (ne_eqb 2 n (λ h. omega arith)) in
-    let three : false ≡ eqb 3 n = sym (ne_eqb 3 n (λ h. omega arith)) in
-    let six : false ≡ eqb 6 n = sym (ne_eqb 6 n (λ h. omega arith)) in
-    by-tag (λ t. false ≡ known t n) one two two six three one one (λ t o. sym (unknown t n o))
+    by-tag (λ t. false ≡ known t n)
+    (sym (ne_eqb 1 n (λ h. omega arith)))
+    (sym (ne_eqb 2 n (λ h. omega arith)))
+    (sym (ne_eqb 2 n (λ h. omega arith)))
+    (sym (ne_eqb 6 n (λ h. omega arith)))
+    (sym (ne_eqb 3 n (λ h. omega arith)))
+    (λ t p q r u v. rw (p, q, r, u, v))
 
 -- ---- what follows for a body of that length
 no-event : (o : Option Event) → is_event o ≡ false → o ≡ none
@@ -89,11 +75,10 @@ length-is tag len q = sym (eqb-true (body_length tag) len (both (not (eqb (body_
 pub length-of : (k tag len : ℕ) → tag ≡ k → known tag len ≡ true → len ≡ body_length k
 length-of k tag len e q = length-is tag len q ∙ ap body_length e
 
--- the tag that is left where it is none of the first six
-pub last-tag : (tag len : ℕ) → known tag len ≡ true → eqb tag 0x10 ≡ false → eqb tag 0x11 ≡ false → eqb tag 0x12 ≡ false → eqb tag 0x13 ≡ false
-    → eqb tag 0x14 ≡ false → eqb tag 0x15 ≡ false → tag ≡ 0x16
-last-tag tag len k p q r u v w = go (eqb tag 0x16) refl
+-- the tag that is left where it is none of the first four
+pub last-tag : (tag len : ℕ) → known tag len ≡ true → eqb tag 0x10 ≡ false → eqb tag 0x11 ≡ false → eqb tag 0x12 ≡ false → eqb tag 0x13 ≡ false → tag ≡ 0x14
+last-tag tag len k p q r u = go (eqb tag 0x14) refl
   where
-    go : (b : Bool) → eqb tag 0x16 ≡ b → tag ≡ 0x16
-    go true e = eqb-true tag 0x16 e
-    go false e = absurd (true≢false (sym k ∙ rw (p, q, r, u, v, w, e)))
+    go : (b : Bool) → eqb tag 0x14 ≡ b → tag ≡ 0x14
+    go true e = eqb-true tag 0x14 e
+    go false e = absurd (true≢false (sym k ∙ rw (p, q, r, u, e)))

@@ -12,8 +12,6 @@ pub enum Event {
     Lose(u8, u8),
     Link(u8, u8, i32),
     Signal(u8, u8, u8),
-    Leave(u8),
-    ComeBack(u8),
     Bad,
 }
 
@@ -56,8 +54,6 @@ fn body_length(tag: u8) -> usize
         0x12 => 2,
         0x13 => 6,
         0x14 => 3,
-        0x15 => 1,
-        0x16 => 1,
         _ => 0,
     }
 }
@@ -106,9 +102,7 @@ pub fn event_of(s: &[u8], tag: u8, start: usize, len: usize) -> Event
         0x11 => Event::Deliver(s[start], s[start + 1]),
         0x12 => Event::Lose(s[start], s[start + 1]),
         0x13 => link_at(s, start),
-        0x14 => Event::Signal(s[start], s[start + 1], s[start + 2]),
-        0x15 => Event::Leave(s[start]),
-        _ => Event::ComeBack(s[start]),
+        _ => Event::Signal(s[start], s[start + 1], s[start + 2]),
     }
 }
 

@@ -6,11 +6,11 @@ use Prim.Native.Nat.{ℕ, ◌+◌}
 use lib.ListN.{set}
 use lib.IntN.{ℤ, pos, neg_ℤ}
 use Rattle.number.specs.Number.{mark, floor, inf}
-use Rattle.network.specs.Network.{pending_at, copies, fresh_block, within, is_distance, heard_sound, pending_sound, any_present, age_sound, keeps_rules, gone_sound, cell_sound}
+use Rattle.network.specs.Network.{pending_at, copies, fresh_block, within, is_distance, heard_sound, pending_sound, any_present, age_sound, cell_sound}
 
 -- what the examples compute with
 unfoldable opened : ℕ → ℕ
-unfolding copies heard_sound pending_sound any_present age_sound keeps_rules gone_sound cell_sound
+unfolding copies heard_sound pending_sound any_present age_sound cell_sound
 opened n = n
 
 abbrev neg : ℕ → ℤ

@@ -9,12 +9,12 @@ use lib.IntN.{ℤ, pos, neg_ℤ}
 use Rattle.number.specs.Number.{mark, floor, inf}
 use Rattle.field.specs.Field.{from}
 use Rattle.network.specs.Cells.{write}
-use Rattle.network.specs.Network.{heard_at, pending_at, age_at, base, copies, fresh_block, heard_sound, pending_sound, any_present, slots_from, age_sound, keeps_rules, gone_sound, cell_sound}
+use Rattle.network.specs.Network.{heard_at, pending_at, age_at, base, copies, fresh_block, heard_sound, pending_sound, any_present, slots_from, age_sound, cell_sound}
 use Rattle.network.specs.Network.{first_not, lowest_unsound}
 
 -- what the examples compute with
 unfoldable opened : ℕ → ℕ
-unfolding from copies heard_sound pending_sound any_present age_sound keeps_rules gone_sound cell_sound first_not lowest_unsound
+unfolding from copies heard_sound pending_sound any_present age_sound cell_sound first_not lowest_unsound
 opened n = n
 
 abbrev ages : List ℤ

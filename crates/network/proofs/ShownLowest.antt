@@ -7,12 +7,12 @@ use Prim.Native.Nat.{ℕ, ◌+◌, ◌-◌}
 use lib.ListN.{take, set}
 use lib.IntN.{ℤ, pos, neg_ℤ}
 use Rattle.number.specs.Number.{mark, eq_z}
-use Rattle.network.specs.Network.{sensors_at, heard_at, pending_at, block_size, network_size, base, copies, fresh_block, heard_sound, pending_sound, any_present}
-use Rattle.network.specs.Network.{age_sound, keeps_rules, gone_sound, cell_sound, first_not, placed, lowest_unsound}
+use Rattle.network.specs.Network.{sensors_at, heard_at, pending_at, block_size, network_size, base, copies, fresh_block, heard_sound, pending_sound, any_present, age_sound, cell_sound}
+use Rattle.network.specs.Network.{first_not, placed, lowest_unsound}
 
 -- what the examples compute with
 unfoldable opened : ℕ → ℕ
-unfolding copies heard_sound pending_sound any_present age_sound keeps_rules gone_sound cell_sound first_not lowest_unsound
+unfolding copies heard_sound pending_sound any_present age_sound cell_sound first_not lowest_unsound
 opened n = n
 
 abbrev is-0 : ℕ → ℤ → Bool
@@ -78,8 +78,8 @@ asked-for : (lowest_unsound 1 0 (changed sensors_at mark) ≡ none) × (lowest_u
 unfolding opened
 asked-for = (refl, refl, refl, refl, refl)
 
--- the last cell of the network: whether device 16 is present
-last-cell : (lowest_unsound 16 1 fresh_block ≡ none) × (lowest_unsound 16 1 (changed (block_size - 1) (pos 2)) ≡ some 8735)
-    × (lowest_unsound 16 1 (changed (block_size - 1) (pos 2)) ≡ some (network_size - 1))
+-- the last cell of the network: the age of what device 16 heard from itself
+last-cell : (lowest_unsound 16 1 fresh_block ≡ none) × (lowest_unsound 16 1 (changed (block_size - 1) (pos 0)) ≡ some 8719)
+    × (lowest_unsound 16 1 (changed (block_size - 1) (pos 0)) ≡ some (network_size - 1))
 unfolding opened
 last-cell = (refl, refl, refl)

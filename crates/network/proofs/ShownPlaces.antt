@@ -7,11 +7,11 @@ use lib.ListN.{replicate, set}
 use lib.IntN.{ℤ, pos, neg_ℤ}
 use Rattle.number.specs.Number.{mark, floor, inf}
 use Rattle.field.specs.Field.{from}
-use Rattle.network.specs.Network.{sensors_at, heard_at, pending_at, copies, fresh_block, heard_sound, pending_sound, any_present, age_sound, keeps_rules, gone_sound, cell_sound}
+use Rattle.network.specs.Network.{sensors_at, heard_at, pending_at, copies, fresh_block, heard_sound, pending_sound, any_present, age_sound, cell_sound}
 
 -- what the examples compute with
 unfoldable opened : ℕ → ℕ
-unfolding from copies heard_sound pending_sound any_present age_sound keeps_rules gone_sound cell_sound
+unfolding from copies heard_sound pending_sound any_present age_sound cell_sound
 opened n = n
 
 abbrev tried : List ℤ

@@ -7,16 +7,16 @@ use lib.ListN.{take, set}
 use lib.IntN.{pos}
 use Rattle.number.specs.Number.{mark}
 use Rattle.network.specs.Cells.{write}
-use Rattle.network.specs.Network.{sensors_at, heard_at, pending_at, age_at, network_size, base, copies, fresh_block, fresh, heard_sound, pending_sound, any_present}
-use Rattle.network.specs.Network.{age_sound, keeps_rules, gone_sound, cell_sound, first_not, lowest_unsound, unsound_at, soundness}
+use Rattle.network.specs.Network.{sensors_at, heard_at, pending_at, age_at, network_size, base, copies, fresh_block, fresh, heard_sound, pending_sound, any_present, age_sound, cell_sound}
+use Rattle.network.specs.Network.{first_not, lowest_unsound, unsound_at, soundness}
 
 -- what the examples compute with
 unfoldable opened : ℕ → ℕ
-unfolding copies fresh heard_sound pending_sound any_present age_sound keeps_rules gone_sound cell_sound first_not lowest_unsound soundness
+unfolding copies fresh heard_sound pending_sound any_present age_sound cell_sound first_not lowest_unsound soundness
 opened n = n
 
 -- "0 and 0 when it did its work"; refusal 11 and the cell
-verdicts : (unsound_at none ≡ (0, 0)) × (unsound_at (some 0) ≡ (11, 0)) × (unsound_at (some 8735) ≡ (11, 8735))
+verdicts : (unsound_at none ≡ (0, 0)) × (unsound_at (some 0) ≡ (11, 0)) × (unsound_at (some 8719) ≡ (11, 8719))
 verdicts = (refl, refl, refl)
 
 -- "(place 0: wrong length)": one cell less, one more, none; a sound beginning does not help
@@ -25,18 +25,18 @@ unfolding opened
 wrong-length = (refl, refl, refl, refl)
 
 -- a fresh network is sound; with its last cell unsound that is named, so all sixteen devices are tested
-whole-network : (soundness fresh ≡ (0, 0)) × (soundness (set fresh (network_size - 1) (pos 2)) ≡ (11, 8735))
+whole-network : (soundness fresh ≡ (0, 0)) × (soundness (set fresh (network_size - 1) (pos 0)) ≡ (11, 8719))
 unfolding opened
 whole-network = (refl, refl)
 
 -- the lowest again: in the first device, in the second before the last
-lowest-named : (soundness (set fresh sensors_at (pos 65536)) ≡ (11, 16)) × (soundness (set (set fresh (network_size - 1) (pos 2)) (base 2 + sensors_at) mark) ≡ (11, 562))
+lowest-named : (soundness (set fresh sensors_at (pos 65536)) ≡ (11, 16)) × (soundness (set (set fresh (network_size - 1) (pos 0)) (base 2 + sensors_at) mark) ≡ (11, 561))
 unfolding opened
 lowest-named = (refl, refl)
 
--- a device's cells in use are sound: device 1 has variables, lit sensors, a link to 2 and none back, a slot heard from 2 and one from 3 without a link, of the ages 0 and 2, messages to 2, 3 and 4
-in_use : lowest_unsound 1 1 (
-    write fresh_block (
+-- a network in use is sound: device 1 has variables, lit sensors, a link to 2 and none back, a slot heard from 2 and one from 3 without a link, of the ages 0 and 2, messages to 2, 3 and 4
+in_use : soundness (
+    write fresh (
     (0, pos 7 ∷ pos 8 ∷ [])
     ∷ (sensors_at, pos 3 ∷ [])
     ∷ (heard_at 2, pos 5 ∷ pos 9 ∷ [])
@@ -45,6 +45,6 @@ in_use : lowest_unsound 1 1 (
     ∷ (pending_at 3, pos 1 ∷ [])
     ∷ (pending_at 4, pos 1 ∷ [])
     ∷ (age_at 2, pos 0 ∷ pos 2 ∷ [])
-    ∷ [])) ≡ none
+    ∷ [])) ≡ (0, 0)
 unfolding opened
 in_use = refl

@@ -1,12 +1,12 @@
 -- The network's cells, fresh and sound. Definitions only: nothing is assumed.
-use Rattle.std.specs.Prelude.{Bool, true, false, not, cond, ◌&&◌, ◌||◌, List, [], ◌∷◌, ◌++◌, ℕ, zero, suc, ◌+◌, ◌-◌, ◌*◌, ◌/◌, ◌%◌, length, get_or, take, drop, replicate, eqb, leb, ltb, ℤ, pos}
+use Rattle.std.specs.Prelude.{Bool, true, false, not, cond, ◌&&◌, ◌||◌, List, [], ◌∷◌, ◌++◌, ℕ, zero, suc, ◌+◌, ◌-◌, ◌*◌, ◌/◌, ◌%◌, length, get_or, take, drop, replicate, eqb, ltb, ℤ, pos}
 use Rattle.std.proofs.Math.Option.{Option, none, some}
 use Rattle.std.specs.Int.Signed.{le_z}
 use Rattle.number.specs.Number.{mark, eq_z}
 use Rattle.field.specs.Field.{devices}
 use Rattle.network.specs.Cells.{row}
 
--- the places in a device's cells: its sensors, what it heard from b, what is pending to b, the age of what it heard from b, whether it is present, the end
+-- the places in a device's cells: its sensors, what it heard from b, what is pending to b, the age of what it heard from b, the end
 abbrev pub sensors_at : ℕ
 sensors_at = 16
 
@@ -16,25 +16,21 @@ heard_at b = 17 + 16 * (b - 1)
 abbrev pub pending_at : ℕ → ℕ
 pending_at b = 273 + 16 * (b - 1)
 
--- L1: "sixteen more cells, 529–544: the age of what it last heard from each sender"
+-- L1: "sixteen more cells, 529–544: the age of what it last heard from each sender, so a block is 545 cells and a network 8,720"
 abbrev pub age_at : ℕ → ℕ
 age_at b = 529 + (b - 1)
 
--- L5: "Cell 545 of a block says present (1) or gone (0) .., and a network is 8,736 cells."
-abbrev pub presence_at : ℕ
-presence_at = 545
-
 abbrev pub block_size : ℕ
-block_size = 546
+block_size = 545
 
 abbrev pub network_size : ℕ
-network_size = 8736
+network_size = 8720
 
--- "Device a owns [546] cells from (a - 1) × [546]"
+-- "Device a owns [545] cells from (a - 1) × [545]"
 abbrev pub base : ℕ → ℕ
 base a = (a - 1) * block_size
 
--- "Fresh: sensors and pending marks 0, all else absent." L5, of cell 545: "fresh 1"
+-- "Fresh: sensors and pending marks 0, all else absent."
 abbrev pub no_message : List ℤ
 no_message = pos 0 ∷ replicate 15 mark
 
@@ -43,7 +39,7 @@ copies zero l = []
 copies (suc k) l = l ++ copies k l
 
 abbrev pub fresh_block : List ℤ
-fresh_block = replicate 16 mark ++ (pos 0 ∷ replicate (pending_at 1 - heard_at 1) mark ++ (copies devices no_message ++ (replicate devices mark ++ pos 1 ∷ [])))
+fresh_block = replicate 16 mark ++ (pos 0 ∷ replicate (pending_at 1 - heard_at 1) mark ++ (copies devices no_message ++ replicate devices mark))
 
 unfoldable pub fresh : List ℤ
 unfolding copies
@@ -88,39 +84,15 @@ age_sound a block r z =
     && (not (eq_z z mark) || not (any_present (slots_from block r)))
     && (eq_z z mark || not (eqb r a))
 
--- L5, of cell 545: "sound only as one of these"
-abbrev pub is_presence : ℤ → Bool
-is_presence z = eq_z z (pos 0) || eq_z z (pos 1)
-
--- and at place j of its block, present or gone. "Sound: sensors 0 to 65,535; distances and marks in range; slots absent where the mark is 0; a's rows for
--- itself as when fresh."
-unfoldable pub keeps_rules : ℕ → List ℤ → ℕ → ℤ → Bool
-keeps_rules a block j z =
+-- and at place j of its block. "Sound: sensors 0 to 65,535; distances and marks in range; slots absent where the mark is 0; a's rows for itself as when
+-- fresh."
+unfoldable pub cell_sound : ℕ → List ℤ → ℕ → ℤ → Bool
+cell_sound a block j z =
     cond (ltb j sensors_at) true
     (cond (eqb j sensors_at) (within (pos 0) (pos 65535) z)
     (cond (ltb j (pending_at 1)) (heard_sound a ((j - heard_at 1) / 16 + 1) ((j - heard_at 1) % 16) z)
     (cond (ltb j (age_at 1)) (pending_sound a block ((j - pending_at 1) / 16 + 1) ((j - pending_at 1) % 16) z)
-    (cond (ltb j presence_at) (age_sound a block (j - age_at 1 + 1) z)
-    (is_presence z)))))
-
--- L5: "present (1) or gone (0)"
-abbrev pub is_gone : List ℤ → Bool
-is_gone block = eq_z (get_or block presence_at (pos 0)) (pos 0)
-
--- L5: "own cells .., pending ones and cell 545 excepted": variables, sensors, heard rows; ages
-abbrev pub own_cell : ℕ → Bool
-own_cell j = ltb j (pending_at 1) || leb (age_at 1) j && ltb j presence_at
-
--- what an own cell holds when fresh
-abbrev pub fresh_own : ℕ → ℤ
-fresh_own j = cond (eqb j sensors_at) (pos 0) mark
-
--- L5: "A gone device's own cells are sound only as when fresh"
-unfoldable pub gone_sound : List ℤ → ℕ → ℤ → Bool
-gone_sound block j z = eq_z z (fresh_own j) || not (own_cell j && is_gone block)
-
-unfoldable pub cell_sound : ℕ → List ℤ → ℕ → ℤ → Bool
-cell_sound a block j z = keeps_rules a block j z && gone_sound block j z
+    (age_sound a block (j - age_at 1 + 1) z))))
 
 -- the first place, counted from j, whose cell is not ok
 unfoldable pub first_not : (ℕ → ℤ → Bool) → ℕ → List ℤ → Option ℕ

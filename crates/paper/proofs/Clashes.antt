@@ -8,24 +8,20 @@ use lib.IntN.{ℤ, pos, negsuc}
 use borrow.Author.Tests.{eq-eqb}
 use Rattle.number.specs.Number.{eq_z, mark}
 use Rattle.program.specs.Check.{check, main_of}
-use Rattle.network.specs.Network.{fresh, soundness}
+use Rattle.network.specs.Network.{fresh, heard_sound, pending_sound, any_present, age_sound, cell_sound, first_not, lowest_unsound, soundness}
 use Rattle.event.specs.Event.{Entry, entries, read_list}
-use Rattle.event.specs.Step.{pending_to, heard_from, sensors_of, age_of}
+use Rattle.event.specs.Step.{pending_to, heard_from, sensors_of}
 use Rattle.event.specs.Calls.{room, Result, performed}
-use Rattle.paper.specs.Programs.{counter, lamp, fold_more, rounds, fires, delivers, loses, links, signals, leaves, returns, heard_two}
+use Rattle.paper.specs.Programs.{counter, lamp, fold_more, fires, delivers, loses, links, signals}
 use Rattle.paper.specs.Paper.{ran}
-use Rattle.paper.specs.Needed.{OrderMatters, Needed, pending, away, ten, twenty}
-use Rattle.paper.proofs.Computed.{computed, sounding}
-use Rattle.paper.proofs.Fresh.{fresh-sound, heard_two-sound}
+use Rattle.paper.specs.Needed.{OrderMatters, Needed, pending, ten, twenty}
+use Rattle.paper.proofs.Computed.{computed}
+use Rattle.paper.proofs.Fresh.{fresh-sound}
 use Rattle.paper.proofs.Runs.{performs}
 
 pending-sound : soundness pending ≡ (0, 0)
-unfolding sounding
+unfolding fresh heard_sound pending_sound any_present age_sound cell_sound first_not lowest_unsound soundness
 pending-sound = refl
-
-away-sound : soundness away ≡ (0, 0)
-unfolding sounding
-away-sound = refl
 
 eq_z-refl : (z : ℤ) → eq_z z z ≡ true
 eq_z-refl (pos n) = eq-eqb n n refl
@@ -81,19 +77,4 @@ needed =
       same-pair = by_answer counter pending (delivers 1 2) (loses 1 2) _ _ pending-sound refl refl refl refl refl 0 refl;
       one-sensor = by-cell counter fresh (signals 1 1 0) (signals 1 1 1) _ _ fresh-sound refl refl refl refl refl (sensors_of 1) refl;
       one-pair = by-cell counter fresh (links 1 2 ten) (links 1 2 twenty) _ _ fresh-sound refl refl refl refl refl (heard_from 1 2) refl;
-      leave-fire = by_answer counter fresh (leaves 1) (fires 1) _ _ fresh-sound refl refl refl refl refl 0 refl;
-      leave-another-fire = by_answer rounds heard_two (leaves 1) (fires 2) _ _ heard_two-sound refl refl refl refl refl 1 refl;
-      leave-deliver-to = by_answer counter pending (leaves 2) (delivers 1 2) _ _ pending-sound refl refl refl refl refl 0 refl;
-      leave-deliver-from = by-cell counter pending (leaves 1) (delivers 1 2) _ _ pending-sound refl refl refl refl refl (age_of 2 1) refl;
-      leave-lose = by_answer counter pending (leaves 2) (loses 1 2) _ _ pending-sound refl refl refl refl refl 0 refl;
-      leave-link-from = by_answer counter fresh (leaves 1) (links 1 2 ten) _ _ fresh-sound refl refl refl refl refl 0 refl;
-      leave-link-to = by_answer counter fresh (leaves 2) (links 1 2 ten) _ _ fresh-sound refl refl refl refl refl 0 refl;
-      leave-signal = by_answer counter fresh (leaves 1) (signals 1 1 1) _ _ fresh-sound refl refl refl refl refl 0 refl;
-      leave-return = by_answer counter fresh (leaves 1) (returns 1) _ _ fresh-sound refl refl refl refl refl 0 refl;
-      return-fire = by_answer counter away (returns 1) (fires 1) _ _ away-sound refl refl refl refl refl 0 refl;
-      return-deliver = by_answer counter away (returns 1) (delivers 2 1) _ _ away-sound refl refl refl refl refl 0 refl;
-      return-lose = by_answer counter away (returns 1) (loses 2 1) _ _ away-sound refl refl refl refl refl 0 refl;
-      return-link-from = by_answer counter away (returns 1) (links 1 2 ten) _ _ away-sound refl refl refl refl refl 0 refl;
-      return-link-to = by_answer counter away (returns 1) (links 2 1 ten) _ _ away-sound refl refl refl refl refl 0 refl;
-      return-signal = by_answer counter away (returns 1) (signals 1 1 1) _ _ away-sound refl refl refl refl refl 0 refl;
     }

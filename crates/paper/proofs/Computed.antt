@@ -8,20 +8,15 @@ use Rattle.program.specs.Table.{first_of, among, size, values_in, picked, all_nu
 use Rattle.program.specs.Tree.{tree_of, grown, trees, is_field, sort_broken, misread, spatial, cost}
 use Rattle.program.specs.Check.{lowest, offending, sort_offends, misread_in, called, use_offends, tree_rows, check}
 use Rattle.program.specs.Conditions.{items_bytes, program_bytes}
-use Rattle.network.specs.Network.{copies, fresh, heard_sound, pending_sound, any_present, age_sound, keeps_rules, gone_sound, cell_sound, first_not, lowest_unsound, soundness}
+use Rattle.network.specs.Network.{copies, fresh}
 use Rattle.round.specs.Round.{operated, folded, sensed, heard_in, measured, reps, erased, eval, round, message, joined, fades, older, faded, after, fired}
 use Rattle.event.specs.Event.{read_as, read_from, read_list, read_one}
-use Rattle.event.specs.Step.{digit_set, refusal, forgotten, plan}
+use Rattle.event.specs.Step.{digit_set, refusal, plan}
 use Rattle.event.specs.Calls.{performed}
 
 unfoldable pub computed : List ℕ → List ℕ
 unfolding operator_of brought plus minus times over operation_result faults big_from fields_in fields_of from pointwise faults_in first_of among size values_in picked all_numbers bodies beyond taken_by
     outside unnamed entry_of load_from load tree_of grown trees is_field sort_broken misread spatial cost lowest offending sort_offends misread_in called use_offends tree_rows check items_bytes
     program_bytes copies fresh operated folded sensed heard_in measured reps erased eval round message joined fades older faded after fired read_as read_from read_list
-    read_one digit_set refusal forgotten plan performed
+    read_one digit_set refusal plan performed
 computed s = s
-
--- what the soundness of a network computes with
-unfoldable pub sounding : List ℕ → List ℕ
-unfolding fresh heard_sound pending_sound any_present age_sound keeps_rules gone_sound cell_sound first_not lowest_unsound soundness
-sounding s = s

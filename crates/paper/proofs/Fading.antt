@@ -4,16 +4,20 @@ use mathlib.Core.List.{◌++◌}
 use Prim.Native.Nat.{ℕ, ◌+◌}
 use lib.ListN.{get_or}
 use lib.IntN.{pos}
-use Rattle.network.specs.Network.{fresh}
+use Rattle.network.specs.Cells.{row}
+use Rattle.network.specs.Network.{fresh, heard_sound, pending_sound, any_present, age_sound, cell_sound, first_not, lowest_unsound, soundness}
 use Rattle.event.specs.Step.{heard_from, age_of}
 use Rattle.event.specs.Calls.{Result}
 use Rattle.paper.specs.Programs.{counter, fires, delivers, loses, signals}
 use Rattle.paper.specs.Fading.{sums, times, ready, heard, Fading}
-use Rattle.paper.proofs.Computed.{computed, sounding}
+use Rattle.paper.proofs.Computed.{computed}
 use Rattle.paper.proofs.Fresh.{fresh-sound}
-use Rattle.paper.proofs.Runs.{space, performs, cells}
+use Rattle.paper.proofs.Runs.{space, performs}
 
--- a cell of the network that a run left
+-- n cells of the network that a run left, from cell c on; one of them
+cells : (c n : ℕ) (r q : Result) → r ≡ q → row r.network c n ≡ row q.network c n
+cells c n r q e = ap (λ (z : Result). row z.network c n) e
+
 cell : (c : ℕ) (r q : Result) → r ≡ q → get_or r.network c (pos 9) ≡ get_or q.network c (pos 9)
 cell c r q e = ap (λ (z : Result). get_or z.network c (pos 9)) e
 
@@ -21,7 +25,7 @@ age : ℕ
 age = age_of 2 1
 
 pub fading : Fading
-unfolding computed sounding age
+unfolding computed heard_sound pending_sound any_present age_sound cell_sound first_not lowest_unsound soundness age
 fading =
     record {
       three-rounds = space _ _ (performs sums fresh (ready ++ (heard ++ times 5 (fires 2))) 13 _ fresh-sound refl refl refl);

@@ -4,4 +4,3 @@ pub mod Runs
 pub mod Fading
 pub mod Lags
 pub mod Clashes
-pub mod Leaving

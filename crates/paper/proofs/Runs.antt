@@ -26,10 +26,6 @@ performs program n list k l sound accepted read roomy = run-performed program n 
 pub space : (r q : Result) → r ≡ q → r.space ≡ q.space
 space r q e = ap (λ (z : Result). z.space) e
 
--- so many cells of the network that a run left, from cell c on
-pub cells : (c n : ℕ) (r q : Result) → r ≡ q → row r.network c n ≡ row q.network c n
-cells c n r q e = ap (λ (z : Result). row z.network c n) e
-
 pub paper : Paper
 unfolding computed
 paper =

@@ -3,4 +3,3 @@ pub mod Paper
 pub mod Needed
 pub mod Fading
 pub mod Lags
-pub mod Leaving

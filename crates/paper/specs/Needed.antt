@@ -5,9 +5,9 @@ use Rattle.std.specs.Prelude.{◌≡◌, List, [], ◌∷◌, ◌++◌, ℕ, tak
 use Rattle.program.specs.Check.{check}
 use Rattle.network.specs.Cells.{write}
 use Rattle.network.specs.Network.{fresh, soundness}
-use Rattle.event.specs.Step.{pending_to, presence_of}
+use Rattle.event.specs.Step.{pending_to}
 use Rattle.event.specs.Calls.{Result}
-use Rattle.paper.specs.Programs.{counter, lamp, fold_more, rounds, fires, delivers, loses, links, signals, leaves, returns, heard_two}
+use Rattle.paper.specs.Programs.{counter, lamp, fold_more, fires, delivers, loses, links, signals}
 use Rattle.paper.specs.Paper.{ran}
 
 -- e before f leaves another network, or answers e or f otherwise, than f before e
@@ -21,10 +21,6 @@ pub record OrderMatters (program : List ℕ) (network : List ℤ) (e f : List �
 -- a message with 3 in slot 1 is pending from device 1 to device 2
 abbrev pub pending : List ℤ
 pending = write fresh ((pending_to 1 2, pos 1 ∷ pos 3 ∷ []) ∷ [])
-
--- device 1 is gone, and a message from 2 to it is pending
-abbrev pub away : List ℤ
-away = write fresh ((presence_of 1, pos 0 ∷ []) ∷ (pending_to 2 1, pos 1 ∷ pos 3 ∷ []) ∷ [])
 
 abbrev pub ten : List ℕ
 ten = 0 ∷ 0 ∷ 0 ∷ 10 ∷ []
@@ -48,21 +44,3 @@ pub record Needed : Type 0 where
   pub one-sensor : OrderMatters counter fresh (signals 1 1 0) (signals 1 1 1)
   -- "link one pair"
   pub one-pair : OrderMatters counter fresh (links 1 2 ten) (links 1 2 twenty)
-  -- L5: "Both events clash with every event": a departure with a round of its device, and of another, which it names in no way
-  pub leave-fire : OrderMatters counter fresh (leaves 1) (fires 1)
-  pub leave-another-fire : OrderMatters rounds heard_two (leaves 1) (fires 2)
-  -- with a delivery to it and from it, a loss, a link from it and to it, a signal, its return
-  pub leave-deliver-to : OrderMatters counter pending (leaves 2) (delivers 1 2)
-  pub leave-deliver-from : OrderMatters counter pending (leaves 1) (delivers 1 2)
-  pub leave-lose : OrderMatters counter pending (leaves 2) (loses 1 2)
-  pub leave-link-from : OrderMatters counter fresh (leaves 1) (links 1 2 ten)
-  pub leave-link-to : OrderMatters counter fresh (leaves 2) (links 1 2 ten)
-  pub leave-signal : OrderMatters counter fresh (leaves 1) (signals 1 1 1)
-  pub leave-return : OrderMatters counter fresh (leaves 1) (returns 1)
-  -- a return with each kind of event that names the device. The pairs that are not needed: L5.8
-  pub return-fire : OrderMatters counter away (returns 1) (fires 1)
-  pub return-deliver : OrderMatters counter away (returns 1) (delivers 2 1)
-  pub return-lose : OrderMatters counter away (returns 1) (loses 2 1)
-  pub return-link-from : OrderMatters counter away (returns 1) (links 1 2 ten)
-  pub return-link-to : OrderMatters counter away (returns 1) (links 2 1 ten)
-  pub return-signal : OrderMatters counter away (returns 1) (signals 1 1 1)

@@ -56,10 +56,6 @@ condition_two kind = program_bytes (x 0 (2 ∷ []) ∷ x 0 (5 ∷ []) ∷ x 0 (6
 abbrev pub fold_more : List ℕ
 fold_more = program_bytes (x 0 (5 ∷ []) ∷ x 0 (1 ∷ []) ∷ x 8 (1 ∷ 1 ∷ []) ∷ x 10 (5 ∷ 0 ∷ 2 ∷ []) ∷ []) 3
 
--- (fold-hood* + (rep x 0 (+ x 1)) (nbr 10)), in slot 1: a device's rounds before this one, and 10 for each device that it hears
-abbrev pub rounds : List ℕ
-rounds = program_bytes (counter_parts ++ x 0 (10 ∷ []) ∷ x 8 (1 ∷ 5 ∷ []) ∷ x 10 (0 ∷ 4 ∷ 6 ∷ []) ∷ []) 7
-
 -- events as fields
 abbrev pub fires : ℕ → List ℕ
 fires a = 0x10 ∷ 0 ∷ 1 ∷ a ∷ []
@@ -75,12 +71,6 @@ links a b distance = 0x13 ∷ 0 ∷ 6 ∷ a ∷ b ∷ distance
 
 abbrev pub signals : ℕ → ℕ → ℕ → List ℕ
 signals a s v = 0x14 ∷ 0 ∷ 3 ∷ a ∷ s ∷ v ∷ []
-
-abbrev pub leaves : ℕ → List ℕ
-leaves a = 0x15 ∷ 0 ∷ 1 ∷ a ∷ []
-
-abbrev pub returns : ℕ → List ℕ
-returns a = 0x16 ∷ 0 ∷ 1 ∷ a ∷ []
 
 -- (iii): device 2, variable inf, neighbours 1 and 3 at 10, slot 1 heard 10 and inf, slot 2 heard 0 from both; (iv): slot 2 unheard.
 -- From L1 on a slot that is heard has an age: what both sent has just been delivered (L1.7)

@@ -25,8 +25,6 @@ fn do_event(
         lists::Event::Lose(a, b) => effects::lose(net, a, b),
         lists::Event::Link(a, b, d) => effects::link(net, a, b, d),
         lists::Event::Signal(a, s, v) => effects::signal(net, a, s, v),
-        lists::Event::Leave(a) => departure::leave(net, a),
-        lists::Event::ComeBack(a) => departure::come_back(net, a),
         lists::Event::Bad => fire::fire(t, u, main, net, 0, st),
     }
 }

@@ -29,13 +29,13 @@ unfolding opened
 empty-messages = refl
 
 -- after a round: the variables, sensors and heard rows as they stood, the messages; "all that is pending from a goes", also to device 3, to which there is no link; the ages
--- one more (those that fade: ShownFading), cell 545 as it stood
+-- one more (those that fade: ShownFading)
 abbrev joined-rows : List (List ℤ) → List ℤ
 joined-rows [] = []
 joined-rows (l ∷ ls) = l ++ joined-rows ls
 
 abbrev left : List ℤ → List ℤ → List ℤ
-left variables m = variables ++ (row cells 16 257 ++ (joined-rows (to-linked m) ++ pos 1 ∷ mark ∷ pos 2 ∷ mark ∷ pos 1 ∷ pos 2 ∷ replicate 9 mark ++ pos 1 ∷ pos 1 ∷ []))
+left variables m = variables ++ (row cells 16 257 ++ (joined-rows (to-linked m) ++ pos 1 ∷ mark ∷ pos 2 ∷ mark ∷ pos 1 ∷ pos 2 ∷ replicate 9 mark ++ pos 1 ∷ []))
 
 cells-after : (after cells (state full slots) ≡ left full (pos 1 ∷ drop 1 slots)) × (after cells (state full unsent) ≡ left full (pos 1 ∷ replicate 15 mark))
 unfolding opened

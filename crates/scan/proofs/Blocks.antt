@@ -15,12 +15,15 @@ use Rattle.number.specs.Number.{mark, eq_z}
 use Rattle.decide.proofs.Joined.{one_more}
 use Rattle.arith.proofs.Signs.{eq_z-same}
 use Rattle.network.specs.Cells.{row}
-use Rattle.network.specs.Network.{sensors_at, heard_at, pending_at, age_at, presence_at, block_size, network_size, within, is_distance, is_age, heard_sound, any_present}
-use Rattle.cell_rules.specs.Sound.{ruled_at, sound_at, pending_from, age_from}
-use Rattle.cell_rules.proofs.Cell.{gone, variable, sensor, heard, pending, age, presence, present, message-cell, as-fresh}
-use Rattle.scan.specs.Pass.{SoundBelow, row_cell, RowsAre, Slotless, Pending, nothing, message, PendingRows, Heard, HeardRows, PlainUntil, OwnRuled, OwnFresh}
-use Rattle.scan.proofs.First.{sound_more}
+use Rattle.network.specs.Network.{sensors_at, heard_at, pending_at, age_at, block_size, network_size, is_distance, is_age, heard_sound, any_present}
+use Rattle.cell_rules.specs.Sound.{sound_at, pending_from, age_from}
+use Rattle.cell_rules.proofs.Cell.{variable, heard, pending, age}
+use Rattle.scan.specs.Pass.{SoundBelow, row_cell, RowsAre, Slotless, Pending, nothing, message, PendingRows, Heard, HeardRows, PlainUntil}
+use Rattle.scan.proofs.First.{Upto, further}
 use Rattle.scan.proofs.Tests.{slot-absent, absent-all}
+
+pub past-variables : {n : List ℤ} {a : ℕ} → Upto n a 0 → Upto n a sensors_at
+past-variables {n} {a} u = further sensors_at u (λ j g l. variable n a j l)
 
 -- ---- cells that pass
 module _ (a b i : ℕ) (z : ℤ) where
@@ -116,14 +119,6 @@ first_of {n} {at} u = rw (add-zero at) at (u.cell 0 (omega arith))
 pub slotless : {n : List ℤ} {at : ℕ} {f : ℤ} → RowsAre n at f 16 → Slotless n at
 slotless u = record { slot = λ i h g. u.cell i g ∙ rw (ne_eqb (i % 16) 0 (λ e. omega arith)) }
 
--- and where the first is absent too, any of their cells
-all-absent : {n : List ℤ} {at m : ℕ} → RowsAre n at mark m → (i : ℕ) {k : ℕ} → i < m → k ≡ at + i → get_or n k (pos 0) ≡ mark
-all-absent {n} {at} {m} u i {k} h e = rw e (u.cell i h ∙ go (eqb (i % 16) 0))
-  where
-    go : (t : Bool) → cond t mark mark ≡ mark
-    go true = refl
-    go false = refl
-
 -- where all of them are absent, none is present
 none-present : {n : List ℤ} {at : ℕ} → at + 16 ≤ length n → Slotless n at → any_present (row n (at + 1) 15) ≡ false
 none-present {n} {at} h u =
@@ -137,110 +132,71 @@ pub slotless-by : {n : List ℤ} {at : ℕ} → at + 16 ≤ length n → any_pre
 slotless-by {n} {at} h q =
     record { slot = λ i g l. let e : at + i ≡ at + 1 + (i - 1) = omega arith in rw e (slot-absent n (at + 1) (i - 1) (omega arith) (omega arith) q) }
 
--- ---- the places of a device in front of its presence
-places : (P : ℕ → Type 0) → ((j : ℕ) → j < sensors_at → P j) → P sensors_at → ((j b i : ℕ) → b < 16 → i < 16 → j ≡ heard_at 1 + b * 16 + i → P j)
-    → ((j b i : ℕ) → b < 16 → i < 16 → j ≡ pending_at 1 + b * 16 + i → P j) → ((j b : ℕ) → b < 16 → j ≡ age_at 1 + b → P j) → (j : ℕ) → j < presence_at → P j
-places P front sensors rows messages ages j h = by (ltb j sensors_at) (eqb j sensors_at) (ltb j (pending_at 1)) (ltb j (age_at 1)) refl refl refl refl
-  where
-    by : (t u v w : Bool) → ltb j sensors_at ≡ t → eqb j sensors_at ≡ u → ltb j (pending_at 1) ≡ v → ltb j (age_at 1) ≡ w → P j
-    by true u v w d e f g = front j (ltb-true j sensors_at d)
-    by false true v w d e f g = rw (eqb-true j sensors_at e) sensors
-    by false false true w d e f g =
-        let x = ltb-false j sensors_at d in
-        let y = eqb-false j sensors_at e in
-        let z = ltb-true j (pending_at 1) f in
-        rows j ((j - heard_at 1) / 16) ((j - heard_at 1) % 16) (omega arith) (omega arith) (omega arith)
-    by false false false true d e f g =
-        let y = ltb-false j (pending_at 1) f in
-        let z = ltb-true j (age_at 1) g in
-        messages j ((j - pending_at 1) / 16) ((j - pending_at 1) % 16) (omega arith) (omega arith) (omega arith)
-    by false false false false d e f g = let z = ltb-false j (age_at 1) g in ages j (j - age_at 1) (omega arith) (omega arith)
-
 -- ---- a device that passes
-module _ (n : List ℤ) (a : ℕ) (l : length n ≡ network_size) (d : a < 16) (m : PendingRows n (a * block_size) 16) (p : get_or n (a * block_size + pending_at 1 + 16 * a) (pos 0) ≡ pos 0) where
+module _ (n : List ℤ) (a : ℕ) (l : length n ≡ network_size) (d : a < 16) (s : sound_at n a sensors_at ≡ true) (r : HeardRows n (a * block_size) 16) (r' : PendingRows n (a * block_size) 16)
+    (o : get_or n (a * block_size + heard_at 1 + 16 * a) (pos 0) ≡ mark) (p : get_or n (a * block_size + pending_at 1 + 16 * a) (pos 0) ≡ pos 0)
+    (y : get_or n (a * block_size + age_at 1 + a) (pos 0) ≡ mark) where
   read : {k m : ℕ} {z : ℤ} → k ≡ m → get_or n m (pos 0) ≡ z → get_or n k (pos 0) ≡ z
   read e h = rw e h
 
-  module _ (u : OwnRuled n a) where
-    -- no age, so no slot
-    own-slots : Slotless n (a * block_size + heard_at 1 + 16 * a)
-    own-slots = by (u.rows.row a d).age
-      where
-        by : ((get_or n (a * block_size + age_at 1 + a) (pos 0) ≡ mark) × Slotless n (a * block_size + heard_at 1 + 16 * a)) ⊎ (is_age (get_or n (a * block_size + age_at 1 + a) (pos 0)) ≡ true)
-            → Slotless n (a * block_size + heard_at 1 + 16 * a)
-        by (inl q) = q.1
-        by (inr w) = absurd (true≢false (sym w ∙ ap is_age u.age))
-
-    own : (i k : ℕ) → i < 16 → k ≡ a * block_size + heard_at 1 + 16 * a + i → get_or n k (pos 0) ≡ mark
-    own zero k g e = read (omega arith) u.link
-    own (suc i) k g e = read e (own-slots.slot (suc i) (omega arith) g)
-
-    heard-passes : (j b i : ℕ) → b < 16 → i < 16 → j ≡ heard_at 1 + b * 16 + i → ruled_at n a j ≡ true
-    heard-passes j b i h g e =
-        heard n a j b i (a * block_size + j) h g refl e
-        ∙ heard-fine a b i (get_or n (a * block_size + j) (pos 0)) (λ q. own i (a * block_size + j) g (omega arith))
-        (λ q. let x : a * block_size + j ≡ a * block_size + heard_at 1 + 16 * b = omega arith in rw x (u.rows.row b h).distance)
-
-    pending-passes : (j b i : ℕ) → b < 16 → i < 16 → j ≡ pending_at 1 + b * 16 + i → ruled_at n a j ≡ true
-    pending-passes j b i h g e = pending n a j b i (a * block_size + j) h g refl (a * block_size + pending_at 1 + 16 * b) e (omega arith) ∙ by (m.row b h)
-      where
-        other : get_or n (a * block_size + pending_at 1 + 16 * b) (pos 0) ≡ pos 1 → b ≡ a → ⊥
-        other w q =
-            let x : a * block_size + pending_at 1 + 16 * b ≡ a * block_size + pending_at 1 + 16 * a = omega arith in
-            let z : pos 0 ≡ pos 1 = sym p ∙ (rw x at w) in
-            let y : ◌≡◌ {A = ℕ} 0 1 = cc in
-            omega arith
-
-        by : Pending n (a * block_size + pending_at 1 + 16 * b)
-            → pending_from (suc a) (get_or n (a * block_size + pending_at 1 + 16 * b) (pos 0)) (suc b) i (get_or n (a * block_size + j) (pos 0)) ≡ true
-        by (nothing u) = nothing-fine a b i _ _ (λ q. read (omega arith) (first_of u)) (λ v. read (omega arith) ((slotless u).slot i v g))
-        by (message w) = message-fine a b i _ _ w (other w) (λ q. read (omega arith) w)
-
-    age-passes : (j b : ℕ) → b < 16 → j ≡ age_at 1 + b → ruled_at n a j ≡ true
-    age-passes j b h e =
-        let k : a * block_size + j ≡ a * block_size + age_at 1 + b = omega arith in
-        age n a j b (a * block_size + j) (a * block_size + heard_at 1 + 16 * b + 1) h refl e (omega arith)
-        ∙ rw k (age-fine a b (any_present (row n (a * block_size + heard_at 1 + 16 * b + 1) 15)) _ (λ q. read (omega arith) u.age) (by (u.rows.row b h).age))
-      where
-        by : {z : ℤ} → ((z ≡ mark) × Slotless n (a * block_size + heard_at 1 + 16 * b)) ⊎ (is_age z ≡ true)
-            → ((z ≡ mark) × (any_present (row n (a * block_size + heard_at 1 + 16 * b + 1) 15) ≡ false)) ⊎ (is_age z ≡ true)
-        by (inl q) = inl (q.0, none-present (omega arith) q.1)
-        by (inr w) = inr w
-
-    ruled : (j : ℕ) → j < presence_at → ruled_at n a j ≡ true
-    ruled = places (λ j. ruled_at n a j ≡ true) (variable n a) u.sensors heard-passes pending-passes age-passes
-
-    -- the presence is right, and no more is asked of the other cells
-    passes : within (pos 0) (pos 1) (get_or n (a * block_size + presence_at) (pos 0)) ≡ true → ((j : ℕ) → j < presence_at → sound_at n a j ≡ ruled_at n a j) → SoundBelow n a block_size
-    passes e f = sound_more block_size refl (record { cell = λ j h. f j h ∙ ruled j h }) (presence n a ∙ e)
-
-  pub present-passes : get_or n (a * block_size + presence_at) (pos 0) ≡ pos 1 → OwnRuled n a → SoundBelow n a block_size
-  present-passes e u = passes u (rw e) (λ j h. present n a j (gone n a ∙ rw e))
-
-  -- cells as when fresh keep the rules
-  fresh-ruled : OwnFresh n (a * block_size) → OwnRuled n a
-  fresh-ruled u =
-      record {
-        sensors = sensor n a ∙ rw u.sensors;
-        rows = record { row = heard-at };
-        link = all-absent u.rows (16 * a) (omega arith) (omega arith);
-        age = all-absent u.ages a d refl;
-      }
+  -- no age, so no slot
+  own-slots : Slotless n (a * block_size + heard_at 1 + 16 * a)
+  own-slots = by (r.row a d).age
     where
-      heard-at : (b : ℕ) → b < 16 → Heard n (a * block_size + heard_at 1 + 16 * b) (get_or n (a * block_size + age_at 1 + b) (pos 0))
-      heard-at b h =
-          record {
-            distance = rw (all-absent u.rows (16 * b) {k = a * block_size + heard_at 1 + 16 * b} (omega arith) (omega arith));
-            age = inl (all-absent u.ages b h refl, record { slot = λ i f g. all-absent u.rows (16 * b + i) (omega arith) (omega arith) });
-          }
+      by : ((get_or n (a * block_size + age_at 1 + a) (pos 0) ≡ mark) × Slotless n (a * block_size + heard_at 1 + 16 * a)) ⊎ (is_age (get_or n (a * block_size + age_at 1 + a) (pos 0)) ≡ true)
+          → Slotless n (a * block_size + heard_at 1 + 16 * a)
+      by (inl q) = q.1
+      by (inr w) = absurd (true≢false (sym w ∙ ap is_age y))
 
-  pub gone-passes : get_or n (a * block_size + presence_at) (pos 0) ≡ pos 0 → OwnFresh n (a * block_size) → SoundBelow n a block_size
-  gone-passes e u =
-      passes (fresh-ruled u) (rw e)
-      (places (λ j. sound_at n a j ≡ ruled_at n a j) (λ j h. absent-at j (λ q. omega arith) (all-absent u.variables j h refl)) (as-fresh n a sensors_at (rw u.sensors))
-      (λ j b i h g q. absent-at j (λ s. omega arith) (all-absent u.rows (b * 16 + i) (omega arith) (omega arith)))
-      (λ j b i h g q. message-cell n a j (omega arith) (omega arith))
-      (λ j b h q. absent-at j (λ s. omega arith) (all-absent u.ages b h (omega arith))))
+  own : (i k : ℕ) → i < 16 → k ≡ a * block_size + heard_at 1 + 16 * a + i → get_or n k (pos 0) ≡ mark
+  own zero k g e = read (omega arith) o
+  own (suc i) k g e = read e (own-slots.slot (suc i) (omega arith) g)
+
+  heard-passes : (j b i : ℕ) → b < 16 → i < 16 → j ≡ heard_at 1 + b * 16 + i → sound_at n a j ≡ true
+  heard-passes j b i h g e =
+      heard n a j b i (a * block_size + j) h g refl e
+      ∙ heard-fine a b i (get_or n (a * block_size + j) (pos 0)) (λ q. own i (a * block_size + j) g (omega arith))
+      (λ q. let x : a * block_size + j ≡ a * block_size + heard_at 1 + 16 * b = omega arith in rw x (r.row b h).distance)
+
+  pending-passes : (j b i : ℕ) → b < 16 → i < 16 → j ≡ pending_at 1 + b * 16 + i → sound_at n a j ≡ true
+  pending-passes j b i h g e = pending n a j b i (a * block_size + j) h g refl (a * block_size + pending_at 1 + 16 * b) e (omega arith) ∙ by (r'.row b h)
     where
-      absent-at : (j : ℕ) → (j ≡ sensors_at → ⊥) → get_or n (a * block_size + j) (pos 0) ≡ mark → sound_at n a j ≡ ruled_at n a j
-      absent-at j f q = as-fresh n a j (rw (q, ne_eqb j sensors_at f))
+      other : get_or n (a * block_size + pending_at 1 + 16 * b) (pos 0) ≡ pos 1 → b ≡ a → ⊥
+      other m q =
+          let x : a * block_size + pending_at 1 + 16 * b ≡ a * block_size + pending_at 1 + 16 * a = omega arith in
+          let z : pos 0 ≡ pos 1 = sym p ∙ (rw x at m) in
+          let y : ◌≡◌ {A = ℕ} 0 1 = cc in
+          omega arith
+
+      by : Pending n (a * block_size + pending_at 1 + 16 * b)
+          → pending_from (suc a) (get_or n (a * block_size + pending_at 1 + 16 * b) (pos 0)) (suc b) i (get_or n (a * block_size + j) (pos 0)) ≡ true
+      by (nothing u) = nothing-fine a b i _ _ (λ q. read (omega arith) (first_of u)) (λ v. read (omega arith) ((slotless u).slot i v g))
+      by (message m) = message-fine a b i _ _ m (other m) (λ q. read (omega arith) m)
+
+  age-passes : (j b : ℕ) → b < 16 → j ≡ age_at 1 + b → sound_at n a j ≡ true
+  age-passes j b h e =
+      let k : a * block_size + j ≡ a * block_size + age_at 1 + b = omega arith in
+      age n a j b (a * block_size + j) (a * block_size + heard_at 1 + 16 * b + 1) h refl e (omega arith)
+      ∙ rw k (age-fine a b (any_present (row n (a * block_size + heard_at 1 + 16 * b + 1) 15)) _ (λ q. read (omega arith) y) (by (r.row b h).age))
+    where
+      by : {z : ℤ} → ((z ≡ mark) × Slotless n (a * block_size + heard_at 1 + 16 * b)) ⊎ (is_age z ≡ true)
+          → ((z ≡ mark) × (any_present (row n (a * block_size + heard_at 1 + 16 * b + 1) 15) ≡ false)) ⊎ (is_age z ≡ true)
+      by (inl q) = inl (q.0, none-present (omega arith) q.1)
+      by (inr w) = inr w
+
+  pub passes : SoundBelow n a block_size
+  passes = record { cell = λ j h. by j (ltb j sensors_at) (eqb j sensors_at) (ltb j (pending_at 1)) (ltb j (age_at 1)) refl refl refl refl h }
+    where
+      by : (j : ℕ) (t u v w : Bool) → ltb j sensors_at ≡ t → eqb j sensors_at ≡ u → ltb j (pending_at 1) ≡ v → ltb j (age_at 1) ≡ w → j < block_size → sound_at n a j ≡ true
+      by j true u v w d e f g h = variable n a j (ltb-true j sensors_at d)
+      by j false true v w d e f g h = rw (eqb-true j sensors_at e) s
+      by j false false true w d e f g h =
+          let x = ltb-false j sensors_at d in
+          let y = eqb-false j sensors_at e in
+          let z = ltb-true j (pending_at 1) f in
+          heard-passes j ((j - heard_at 1) / 16) ((j - heard_at 1) % 16) (omega arith) (omega arith) (omega arith)
+      by j false false false true d e f g h =
+          let y = ltb-false j (pending_at 1) f in
+          let z = ltb-true j (age_at 1) g in
+          pending-passes j ((j - pending_at 1) / 16) ((j - pending_at 1) % 16) (omega arith) (omega arith) (omega arith)
+      by j false false false false d e f g h = let z = ltb-false j (age_at 1) g in age-passes j (j - age_at 1) (omega arith) (omega arith)

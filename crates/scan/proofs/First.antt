@@ -6,14 +6,14 @@ use mathlib.Core.Option.{none, some}
 use Prim.Native.Nat.{ℕ, zero, suc, ◌+◌, ◌-◌, ◌*◌, ◌≤◌, ◌<◌}
 use native.Mathlib.Omega.{arith}
 use lib.ListN.{length, get_or, drop, length-take, length-drop}
-use lib.Seq.{drop-drop}
+use lib.Seq.{get_or-take, get_or-drop, drop-drop}
+use lib.Dec.{ltb}
 use lib.IntN.{ℤ, pos}
-use borrow.Author.Tests.{ne_eqb}
-use Rattle.decide.proofs.Joined.{one_more}
+use borrow.Author.Tests.{ne_eqb, ltb-true, ltb-false}
+use Rattle.network.specs.Cells.{row}
 use Rattle.network.specs.Network.{block_size, network_size, cell_sound, first_not, lowest_unsound, unsound_at}
-use Rattle.cell_rules.specs.Sound.{cells_of, sound_at}
-use Rattle.cell_rules.proofs.Cell.{inside}
-use Rattle.scan.specs.Pass.{SoundBelow, FrontUntil, place_of}
+use Rattle.cell_rules.specs.Sound.{sound_at}
+use Rattle.scan.specs.Pass.{SoundBelow, place_of}
 
 -- ---- in a list
 module _ (ok : ℕ → ℤ → Bool) where
@@ -41,17 +41,17 @@ pub record Upto (n : List ℤ) (a m : ℕ) : Type 0 where
 
 module _ (n : List ℤ) where
   cell_at : (a i j : ℕ) (t : Bool) → j ≡ 0 + i → i < block_size → sound_at n a i ≡ t
-      → cell_sound (suc a) (cells_of n a) j (get_or (cells_of n a) i (pos 0)) ≡ t
+      → cell_sound (suc a) (row n (a * block_size) block_size) j (get_or (row n (a * block_size) block_size) i (pos 0)) ≡ t
   unfolding sound_at
   cell_at a i j t e h s =
       let q : j ≡ i = omega arith in
-      rw (q, inside n a i h) s
+      rw (q, get_or-take block_size (drop (a * block_size) n) i (pos 0) h, get_or-drop (a * block_size) n i (pos 0)) s
 
   past : (a k : ℕ) → SoundBelow n a block_size → lowest_unsound (suc a) (suc k) (drop (a * block_size) n) ≡ lowest_unsound (suc (suc a)) k (drop (suc a * block_size) n)
   unfolding lowest_unsound
   past a k p =
       let q : a * block_size + block_size ≡ suc a * block_size = omega arith in
-      rw (first-none (cell_sound (suc a) (cells_of n a)) (cells_of n a) 0
+      rw (first-none (cell_sound (suc a) (row n (a * block_size) block_size)) (row n (a * block_size) block_size) 0
       (λ i j e g. let l : i < block_size = omega (arith, length-take block_size (drop (a * block_size) n)) in cell_at a i j true e l (p.cell i l)))
       (rw (drop-drop block_size (a * block_size) n, q))
 
@@ -59,7 +59,7 @@ module _ (n : List ℤ) where
       → lowest_unsound (suc a) (suc k) (drop (a * block_size) n) ≡ some (a * block_size + r)
   unfolding lowest_unsound
   found a k r h g p f =
-      rw (first_some (cell_sound (suc a) (cells_of n a)) (cells_of n a) 0 r r (omega arith)
+      rw (first_some (cell_sound (suc a) (row n (a * block_size) block_size)) (row n (a * block_size) block_size) 0 r r (omega arith)
       (omega (arith, length-take block_size (drop (a * block_size) n), length-drop (a * block_size) n))
       (λ i j e b. cell_at a i j true e (omega arith) (p.cell i b)) (cell_at a r r false (omega arith) g f))
       (ap some (omega arith))
@@ -89,21 +89,28 @@ pub start : {n : List ℤ} (a m : ℕ) → a ≡ 0 → m ≡ 0 → Upto n a m
 start a m e q = record { before = λ d l. absurd (omega arith); here = record { cell = λ j l. absurd (omega arith) } }
 
 pub next-device : {n : List ℤ} {a : ℕ} (b : ℕ) → b ≡ a + 1 → Upto n a 0 → SoundBelow n a block_size → Upto n b 0
-next-device {n} {a} b q u p = record { before = one_more (λ e. SoundBelow n e block_size) a b q u.before p; here = record { cell = λ j l. absurd (omega arith) } }
+next-device {n} {a} b q u p = record { before = λ e l. by e (ltb e a) refl l; here = record { cell = λ j l. absurd (omega arith) } }
+  where
+    by : (e : ℕ) (t : Bool) → ltb e a ≡ t → e < b → SoundBelow n e block_size
+    by e true s l = u.before e (ltb-true e a s)
+    by e false s l =
+        let g = ltb-false e a s in
+        let z : e ≡ a = omega arith in
+        rw z p
 
--- one cell more is sound, and fewer are
-pub sound_more : {n : List ℤ} {a m : ℕ} (k : ℕ) → k ≡ m + 1 → SoundBelow n a m → sound_at n a m ≡ true → SoundBelow n a k
-sound_more {n} {a} {m} k e u s = record { cell = one_more (λ j. sound_at n a j ≡ true) m k e u.cell s }
+-- cells from m up to k are sound too
+pub further : {n : List ℤ} {a m : ℕ} (k : ℕ) → Upto n a m → ((j : ℕ) → m ≤ j → j < k → sound_at n a j ≡ true) → Upto n a k
+further {n} {a} {m} k u f = record { before = u.before; here = record { cell = λ j l. by j (ltb j m) refl l } }
+  where
+    by : (j : ℕ) (t : Bool) → ltb j m ≡ t → j < k → sound_at n a j ≡ true
+    by j true e l = u.here.cell j (ltb-true j m e)
+    by j false e l = f j (ltb-false j m e) l
 
 pub more : {n : List ℤ} {a m : ℕ} (k : ℕ) → k ≡ m + 1 → Upto n a m → sound_at n a m ≡ true → Upto n a k
-more k e u s = record { before = u.before; here = sound_more k e u.here s }
+more {n} {a} {m} k e u s = further k u (λ j g l. let q : j ≡ m = omega arith in rw q s)
 
 pub fewer : {n : List ℤ} {a m : ℕ} (k : ℕ) → k ≤ m → Upto n a m → Upto n a k
-fewer k h u = record { before = u.before; here = record { cell = λ j l. u.here.cell j (omega arith) } }
-
--- what the search in front of the rows leaves
-pub in-front : {n : List ℤ} {a r : ℕ} → Upto n a 0 → FrontUntil n a r → Upto n a r
-in-front u f = record { before = u.before; here = f.below }
+fewer {n} {a} {m} k h u = further k u (λ j g l. absurd (omega arith))
 
 -- ---- the verdict
 pub accepted-at : (n : List ℤ) (k : ℕ) → lowest_unsound 1 16 n ≡ place_of k → k ≡ network_size → (0, 0) ≡ unsound_at (lowest_unsound 1 16 n)

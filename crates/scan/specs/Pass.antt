@@ -1,9 +1,9 @@
 -- What a pass over a device's cells finds. Definitions only: nothing is assumed.
-use Rattle.std.specs.Prelude.{◌≡◌, ◌⊎◌, true, false, cond, List, ℕ, ◌+◌, ◌*◌, ◌%◌, ◌≤◌, ◌<◌, get_or, eqb, ℤ, pos}
+use Rattle.std.specs.Prelude.{◌≡◌, ◌⊎◌, true, cond, List, ℕ, ◌+◌, ◌*◌, ◌%◌, ◌≤◌, ◌<◌, get_or, eqb, ℤ, pos}
 use Rattle.std.proofs.Math.Option.{Option, none, some}
 use Rattle.number.specs.Number.{mark}
-use Rattle.network.specs.Network.{sensors_at, heard_at, pending_at, age_at, block_size, is_distance, is_age, network_size}
-use Rattle.cell_rules.specs.Sound.{ruled_at, sound_at}
+use Rattle.network.specs.Network.{heard_at, pending_at, age_at, is_distance, is_age, network_size}
+use Rattle.cell_rules.specs.Sound.{sound_at}
 
 -- the cells of a device below place m are sound
 pub record SoundBelow (n : List ℤ) (a m : ℕ) : Type 0 where
@@ -44,26 +44,6 @@ pub record PlainUntil (n : List ℤ) (at from r : ℕ) : Type 0 where
   pub start : from ≤ r
   pub end : r ≤ 16
   pub row : (b : ℕ) → from ≤ b → b < r → Heard n (at + heard_at 1 + 16 * b) (get_or n (at + age_at 1 + b) (pos 0))
-
--- the own cells of the device after a others, as far as the rules of every device ask: its sensors, what it heard, its rows from itself
-pub record OwnRuled (n : List ℤ) (a : ℕ) : Type 0 where
-  pub sensors : ruled_at n a sensors_at ≡ true
-  pub rows : HeardRows n (a * block_size) 16
-  pub link : get_or n (a * block_size + heard_at 1 + 16 * a) (pos 0) ≡ mark
-  pub age : get_or n (a * block_size + age_at 1 + a) (pos 0) ≡ mark
-
--- the own cells of the device whose cells are from `at` on are as when fresh
-pub record OwnFresh (n : List ℤ) (at : ℕ) : Type 0 where
-  pub sensors : get_or n (at + sensors_at) (pos 0) ≡ pos 0
-  pub variables : RowsAre n at mark 16
-  pub rows : RowsAre n (at + heard_at 1) mark 256
-  pub ages : RowsAre n (at + age_at 1) mark 16
-
--- the cells of the device after a others, below place r, are sound; r is in front of its rows and is not, or is where they begin
-pub record FrontUntil (n : List ℤ) (a r : ℕ) : Type 0 where
-  pub end : r ≤ heard_at 1
-  pub below : SoundBelow n a r
-  pub stops : r < heard_at 1 → sound_at n a r ≡ false
 
 -- the lowest unsound cell, given as the number of cells where there is none
 unfoldable pub place_of : ℕ → Option ℕ

@@ -2,7 +2,7 @@
 ghost use Rattle.std.specs.Prelude.{◌≡◌, true, ◌+◌, ◌*◌, ◌≤◌, ◌<◌, length};
 ghost use Rattle.verdict.specs.Pair.{pair};
 ghost use Rattle.network.specs.Network.{block_size, network_size, lowest_unsound, soundness};
-ghost use Rattle.scan.specs.Pass.{SoundBelow, row_cell, RowsAre, Pending, PendingRows, Heard, HeardRows, PlainUntil, OwnRuled, OwnFresh, FrontUntil, place_of};
+ghost use Rattle.scan.specs.Pass.{SoundBelow, row_cell, RowsAre, Pending, PendingRows, Heard, HeardRows, PlainUntil, place_of};
 
 // Cell i of a row whose first cell is `first` and whose slots are absent.
 fn wanted(first: i32, i: usize) -> i32
@@ -148,75 +148,29 @@ fn heard_rows(net: &[i32], at: usize) -> bool
     true
 }
 
-// The same of a present device's own cells, its rows from itself among them: no link and no age, so no slot either.
-fn present_sound(net: &[i32], device: usize) -> bool
-    requires { (length net.now ≡ network_size) × (device < 16) }
-    ensures { (result ≡ true) → OwnRuled net.now device }
-{
-    let at = device * layout::BLOCK;
-    if !cell_rules::sensors_in_range(net, device) {
-        return false;
-    }
-    if !heard_rows(net, at) {
-        return false;
-    }
-    if net[at + layout::HEARD + layout::ROW * device] != layout::MARK {
-        return false;
-    }
-    net[at + layout::AGES + device] == layout::MARK
-}
-
-// Whether a gone device's own cells, from `at` on, are as when fresh.
-fn gone_fresh(net: &[i32], at: usize) -> bool
-    requires { at + block_size ≤ length net.now }
-    ensures { (result ≡ true) → OwnFresh net.now at }
-{
-    if net[at + layout::SENSORS] != 0 {
-        return false;
-    }
-    if !rows_are(net, at, 1, layout::MARK) {
-        return false;
-    }
-    if !rows_are(net, at + layout::HEARD, layout::DEVICES, layout::MARK) {
-        return false;
-    }
-    rows_are(net, at + layout::AGES, 1, layout::MARK)
-}
-
-// Whether all cells of a device are sound, without telling which is not. Only `true` is relied on. Its row to itself needs a look at one cell more: no message.
+// Whether all cells of a device are sound, without telling which is not. Only `true` is relied on. Its rows for itself need a look at three cells more: no link, no message, no age,
+// so no slot either.
 fn block_sound(net: &[i32], device: usize) -> bool
     requires { (length net.now ≡ network_size) × (device < 16) }
     ensures { (result ≡ true) → SoundBelow net.now device block_size }
 {
     let at = device * layout::BLOCK;
+    if !cell_rules::sensors_sound(net, device) {
+        return false;
+    }
+    if !heard_rows(net, at) {
+        return false;
+    }
     if !pending_rows(net, at) {
+        return false;
+    }
+    if net[at + layout::HEARD + layout::ROW * device] != layout::MARK {
         return false;
     }
     if net[at + layout::PENDING + layout::ROW * device] != 0 {
         return false;
     }
-    if net[at + layout::PRESENCE] == 1 {
-        return present_sound(net, device);
-    }
-    if net[at + layout::PRESENCE] != 0 {
-        return false;
-    }
-    gone_fresh(net, at)
-}
-
-// The first of the cells in front of a device's rows that is unsound, or how many there are.
-fn front_until(net: &[i32], device: usize) -> usize
-    requires { (length net.now ≡ network_size) × (device < 16) }
-    ensures { FrontUntil net.now device result }
-{
-    let mut place: usize = 0;
-    while place < layout::HEARD {
-        if !cell_rules::front_sound(net, device, place) {
-            return place;
-        }
-        place += 1;
-    }
-    place
+    net[at + layout::AGES + device] == layout::MARK
 }
 
 // The lowest unsound cell, or the number of cells where all are sound. The search goes into a device that the pass refused.
@@ -229,9 +183,8 @@ fn first_unsound(net: &[i32]) -> usize
         if block_sound(net, device) {
             continue 'search;
         }
-        let front = front_until(net, device);
-        if front < layout::HEARD {
-            bad = device * layout::BLOCK + front;
+        if !cell_rules::sensors_sound(net, device) {
+            bad = device * layout::BLOCK + layout::SENSORS;
             break 'search;
         }
         for row in 0..layout::ROWS {
@@ -241,10 +194,6 @@ fn first_unsound(net: &[i32]) -> usize
                     break 'search;
                 }
             }
-        }
-        if !cell_rules::presence_sound(net, device) {
-            bad = device * layout::BLOCK + layout::PRESENCE;
-            break 'search;
         }
     }
     bad

@@ -1,6 +1,5 @@
 -- What demand 3 is given can be met, and what it then concludes, by computation and by demand 3.
 use mathlib.Core.Path.{◌≡◌, refl, sym, ap, ◌∙◌}
-use mathlib.Core.Bool.{true}
 use mathlib.Core.List.{List, []}
 use Prim.Native.Nat.{ℕ, ◌+◌, ◌<◌}
 use native.Mathlib.Decide.{ℕ_discrete}
@@ -8,11 +7,11 @@ use native.Mathlib.Omega.{arith}
 use lib.ListN.{get_or}
 use lib.IntN.{ℤ, pos}
 use Rattle.order.specs.Order.{count, place, SameEvents, KeepsOrder}
-use Rattle.order.proofs.Agree.{agree, agree-sound}
+use Rattle.order.proofs.Agree.{agree-sound}
 use Rattle.network.specs.Network.{fresh, base}
-use Rattle.event.specs.Event.{Entry, entries, read_list}
-use Rattle.event.specs.Step.{Answer, sensors_of, heard_from, pending_to, age_of, presence_of}
-use Rattle.event.specs.Calls.{room, Result, performed}
+use Rattle.event.specs.Event.{Entry}
+use Rattle.event.specs.Step.{Answer, heard_from, pending_to, age_of}
+use Rattle.event.specs.Calls.{Result, performed}
 use Rattle.program.specs.Check.{main_of}
 use Rattle.event.proofs.Passed.{run-performed}
 use Rattle.paper.specs.Programs.{counter}
@@ -23,44 +22,46 @@ use Rattle.clash.specs.Same.{same_both, same_bytes, same_parts, same_entry}
 use Rattle.clash.specs.Demand3.{answer_at, Given, EndAlike}
 use Rattle.clash.proofs.Symmetric.{entries-symmetric}
 use Rattle.clash.proofs.Whole.{demand-3}
-use Rattle.witness.specs.Shift.{tally, fires, delivers, loses, links, signals, leaves, returns, shift, exchanged, absence, absence_exchanged, bytes, zeros}
-use Rattle.witness.specs.Met.{ran_of, answer_in, cell_in, GivenOf, AlikeOf, Met}
+use Rattle.witness.specs.Shift.{tally, fires, delivers, loses, shift, exchanged, bytes, zeros}
+use Rattle.witness.specs.Met.{first, second, answer, cell, Met}
 
-module _ (l m : List Entry) (read : read_list (bytes l) ≡ entries l) (read' : read_list (bytes m) ≡ entries m) (fits : room l zeros ≡ (0, 0)) (fits' : room m zeros ≡ (0, 0))
-    (agreed : agree same_entry entries_clash l m ≡ true) where
-  given : GivenOf l m
-  unfolding computed
-  given =
-      let orders : SameEvents same_entry l m × KeepsOrder same_entry entries_clash l m = agree-sound same_entry entries_clash entries-symmetric l m agreed in
-      record {
-        accepted = refl;
-        sound = fresh-sound;
-        sound' = fresh-sound;
-        alike = λ c. refl;
-        read = read;
-        read' = read';
-        fits = fits;
-        fits' = fits';
-        events = orders.0;
-        order = orders.1;
-      }
+orders : SameEvents same_entry shift exchanged × KeepsOrder same_entry entries_clash shift exchanged
+unfolding computed same_entry same_parts same_bytes same_both ℕ_discrete
+orders = agree-sound same_entry entries_clash entries-symmetric shift exchanged refl
 
-  alike : AlikeOf l m
-  alike = demand-3 same_entry tally fresh fresh _ _ zeros zeros _ _ given
+given : Given entries_clash same_entry tally fresh fresh (bytes shift) (bytes exchanged) zeros zeros shift exchanged
+unfolding computed
+given =
+    record {
+      accepted = refl;
+      sound = fresh-sound;
+      sound' = fresh-sound;
+      alike = λ c. refl;
+      read = refl;
+      read' = refl;
+      fits = refl;
+      fits' = refl;
+      events = orders.0;
+      order = orders.1;
+    }
 
-  performs : ran_of l ≡ performed (main_of tally) fresh l zeros
-  performs = run-performed tally fresh (bytes l) zeros l given.accepted fresh-sound read fits
+alike : EndAlike same_entry shift exchanged first second
+alike = demand-3 same_entry tally fresh fresh _ _ zeros zeros _ _ given
 
-  -- what the first run answers, computed; the second answers alike
-  answered : (e : Entry) (k : ℕ) (a : Answer) → k < count same_entry e l → answer_at (performed (main_of tally) fresh l zeros).space (place same_entry e k l) ≡ a → answer_in m e k ≡ a
-  answered e k a h q = sym (alike.answers e k h) ∙ ap (λ (r : Result). answer_at r.space (place same_entry e k l)) performs ∙ q
+performs : first ≡ performed (main_of tally) fresh shift zeros
+performs = run-performed tally fresh (bytes shift) zeros shift given.accepted fresh-sound given.read given.fits
 
-  -- likewise its cells
-  ends : (c : ℕ) (z : ℤ) → get_or (performed (main_of tally) fresh l zeros).network c (pos 0) ≡ z → cell_in m c ≡ z
-  ends c z q =
-      ap (λ (n : List ℤ). get_or n c (pos 0)) (sym alike.cells)
-      ∙ ap (λ (r : Result). get_or r.network c (pos 0)) performs
-      ∙ q
+-- what the first run answers, computed; the second answers alike
+answered : (e : Entry) (k : ℕ) (a : Answer) → k < count same_entry e shift → answer_at (performed (main_of tally) fresh shift zeros).space (place same_entry e k shift) ≡ a
+    → answer e k ≡ a
+answered e k a h q = sym (alike.answers e k h) ∙ ap (λ (r : Result). answer_at r.space (place same_entry e k shift)) performs ∙ q
+
+-- likewise its cells
+ends : (c : ℕ) (z : ℤ) → get_or (performed (main_of tally) fresh shift zeros).network c (pos 0) ≡ z → cell c ≡ z
+ends c z q =
+    ap (λ (n : List ℤ). get_or n c (pos 0)) (sym alike.cells)
+    ∙ ap (λ (r : Result). get_or r.network c (pos 0)) performs
+    ∙ q
 
 empty : Given entries_clash same_entry counter fresh fresh [] [] [] [] [] []
 unfolding computed
@@ -90,37 +91,21 @@ two = omega arith
 pub met : Met
 unfolding computed same_entry same_parts same_bytes same_both ℕ_discrete
 met =
-    let shift-answers = answered shift exchanged refl refl refl refl refl in
-    let shift-ends = ends shift exchanged refl refl refl refl refl in
-    let absence-answers = answered absence absence_exchanged refl refl refl refl refl in
-    let absence-ends = ends absence absence_exchanged refl refl refl refl refl in
     record {
       differ = λ q. omega (arith, ap (λ (l : List Entry). get_or (get_or l 0 (fires 0)).body 0 0) q);
       free = refl;
       kinds = (refl, refl);
       clashing = (refl, refl, refl, refl);
-      given = given shift exchanged refl refl refl refl refl;
-      alike = alike shift exchanged refl refl refl refl refl;
+      given = given;
+      alike = alike;
       copies = (refl, refl, refl);
-      first-copy = (shift-answers (fires 1) 0 _ one_of_two refl, shift-answers (fires 2) 0 _ one_of_two refl);
-      second-copy = (shift-answers (fires 1) 1 _ two refl, shift-answers (fires 2) 1 _ two refl);
-      heard = shift-answers (fires 3) 0 _ one refl;
-      faults = (shift-answers (fires 6) 0 _ one_of_two refl, shift-answers (fires 6) 1 _ two refl);
-      refused = (shift-answers (fires 17) 0 _ one refl, shift-answers (delivers 1 1) 0 _ one refl, shift-answers (loses 1 4) 0 _ one refl);
-      cells = (shift-ends (base 1) _ refl, shift-ends (pending_to 1 2) _ refl, shift-ends (heard_from 3 1 + 1) _ refl);
-      ages = (shift-ends (age_of 3 1) _ refl, shift-ends (age_of 4 2) _ refl);
-      given-leaving = given absence absence_exchanged refl refl refl refl refl;
-      alike-leaving = alike absence absence_exchanged refl refl refl refl refl;
-      clashing-leaving = (refl, refl, refl);
-      departed = (
-        absence-answers (signals 5 0 1) 0 _ one_of_two refl,
-        absence-answers (leaves 5) 0 _ one refl,
-        absence-answers (signals 5 0 1) 1 _ two refl,
-        absence-answers (links 2 5 10) 0 _ one refl,
-        absence-answers (returns 5) 0 _ one refl,
-        absence-answers (fires 5) 0 _ one refl,
-      );
-      back = (absence-ends (presence_of 5) _ refl, absence-ends (sensors_of 5) _ refl);
+      first-copy = (answered (fires 1) 0 _ one_of_two refl, answered (fires 2) 0 _ one_of_two refl);
+      second-copy = (answered (fires 1) 1 _ two refl, answered (fires 2) 1 _ two refl);
+      heard = answered (fires 3) 0 _ one refl;
+      faults = (answered (fires 6) 0 _ one_of_two refl, answered (fires 6) 1 _ two refl);
+      refused = (answered (fires 17) 0 _ one refl, answered (delivers 1 1) 0 _ one refl, answered (loses 1 4) 0 _ one refl);
+      cells = (ends (base 1) _ refl, ends (pending_to 1 2) _ refl, ends (heard_from 3 1 + 1) _ refl);
+      ages = (ends (age_of 3 1) _ refl, ends (age_of 4 2) _ refl);
       empty = empty;
       alike-empty = demand-3 same_entry counter fresh fresh _ _ _ _ _ _ empty;
     }

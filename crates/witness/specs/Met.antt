@@ -5,13 +5,13 @@ use Rattle.order.specs.Order.{count, place}
 use Rattle.program.specs.Table.{among}
 use Rattle.network.specs.Network.{fresh, base}
 use Rattle.event.specs.Event.{Entry}
-use Rattle.event.specs.Step.{Answer, sensors_of, heard_from, pending_to, age_of, presence_of}
+use Rattle.event.specs.Step.{Answer, heard_from, pending_to, age_of}
 use Rattle.event.specs.Calls.{Result, run}
 use Rattle.paper.specs.Programs.{counter}
 use Rattle.clash.specs.Clash.{entries_clash}
 use Rattle.clash.specs.Same.{same_entry}
 use Rattle.clash.specs.Demand3.{answer_at, Given, EndAlike}
-use Rattle.witness.specs.Shift.{tally, fires, delivers, loses, links, signals, leaves, returns, left, right, shift, exchanged, absence, absence_exchanged, bytes, zeros}
+use Rattle.witness.specs.Shift.{tally, fires, delivers, loses, links, signals, left, right, shift, exchanged, bytes, zeros}
 
 -- whether some event of l clashes with some event of m
 abbrev pub clashes_any : Entry → List Entry → Bool
@@ -22,34 +22,23 @@ abbrev pub some_clash : List Entry → List Entry → Bool
 some_clash [] m = false
 some_clash (e ∷ l) m = clashes_any e m || some_clash l m
 
--- whether each of the kinds of event that do not clash with all is in l
+-- whether each of the five kinds of event is in l
 abbrev pub every_kind : List Entry → List Bool
 every_kind l = map (λ t. among t (map (λ e. e.tag) l)) (0x10 ∷ 0x11 ∷ 0x12 ∷ 0x13 ∷ 0x14 ∷ [])
 
--- the run of a list
-abbrev pub ran_of : List Entry → Result
-ran_of l = run tally fresh (bytes l) zeros
+-- the two runs, and the answer that the second gives to copy k of e (counted from 0)
+abbrev pub first : Result
+first = run tally fresh (bytes shift) zeros
 
--- the answer that it gives to copy k of e (counted from 0), and a cell after it
-abbrev pub answer_in : List Entry → Entry → ℕ → Answer
-answer_in l e k = answer_at (ran_of l).space (place same_entry e k l)
+abbrev pub second : Result
+second = run tally fresh (bytes exchanged) zeros
 
-abbrev pub cell_in : List Entry → ℕ → ℤ
-cell_in l c = get_or (ran_of l).network c (pos 0)
-
--- of the second order of the shift
 abbrev pub answer : Entry → ℕ → Answer
-answer e k = answer_in exchanged e k
+answer e k = answer_at second.space (place same_entry e k exchanged)
 
+-- a cell after the second run
 abbrev pub cell : ℕ → ℤ
-cell c = cell_in exchanged c
-
--- two lists are what demand 3 is given, of that program and a fresh network, and it concludes
-abbrev pub GivenOf : List Entry → List Entry → Type 0
-GivenOf l m = Given entries_clash same_entry tally fresh fresh (bytes l) (bytes m) zeros zeros l m
-
-abbrev pub AlikeOf : List Entry → List Entry → Type 0
-AlikeOf l m = EndAlike same_entry l m (ran_of l) (ran_of m)
+cell c = get_or second.network c (pos 0)
 
 pub record Met : Type 0 where
   -- the two orders differ: every event of the one stretch has changed places with every event of the other, and both have events of each kind
@@ -60,8 +49,8 @@ pub record Met : Type 0 where
   pub clashing : (entries_clash (links 1 2 10) (fires 1) ≡ true) × (entries_clash (fires 1) (loses 1 2) ≡ true) × (entries_clash (delivers 1 3) (fires 3) ≡ true)
       × (entries_clash (signals 3 0 1) (fires 3) ≡ true)
   -- they are what demand 3 is given, and it concludes
-  pub given : GivenOf shift exchanged
-  pub alike : AlikeOf shift exchanged
+  pub given : Given entries_clash same_entry tally fresh fresh (bytes shift) (bytes exchanged) zeros zeros shift exchanged
+  pub alike : EndAlike same_entry shift exchanged first second
   -- read off it, of the second run: the second copy of fire 1 and of fire 2 answers 1, where the first answers 0
   pub copies : (count same_entry (fires 1) shift ≡ 2) × (place same_entry (fires 1) 1 shift ≡ 6) × (place same_entry (fires 1) 1 exchanged ≡ 18)
   pub first-copy : (answer (fires 1) 0 ≡ (pos 0, pos 0)) × (answer (fires 2) 0 ≡ (pos 0, pos 0))
@@ -75,15 +64,6 @@ pub record Met : Type 0 where
   pub cells : (cell (base 1) ≡ pos 1) × (cell (pending_to 1 2) ≡ pos 1) × (cell (heard_from 3 1 + 1) ≡ pos 6)
   -- L1: "reorderings must leave the ages equal too": 3 has fired once since it heard 1, 4 not since it heard 2
   pub ages : (cell (age_of 3 1) ≡ pos 1) × (cell (age_of 4 2) ≡ pos 0)
-  -- L5, "may stand in the lists of demand 3": they keep their order with every event, and others exchange places between them
-  pub given-leaving : GivenOf absence absence_exchanged
-  pub alike-leaving : AlikeOf absence absence_exchanged
-  pub clashing-leaving : (entries_clash (leaves 5) (links 2 5 10) ≡ true) × (entries_clash (links 2 5 10) (returns 5) ≡ true) × (entries_clash (links 2 5 10) (signals 5 0 1) ≡ false)
-  -- read off it: the second copy of the signal is refused, and the link; back, 5 has no sensor lit, so its round faults
-  pub departed : (answer_in absence_exchanged (signals 5 0 1) 0 ≡ (pos 0, pos 0)) × (answer_in absence_exchanged (leaves 5) 0 ≡ (pos 0, pos 0))
-      × (answer_in absence_exchanged (signals 5 0 1) 1 ≡ (pos 21, pos 0)) × (answer_in absence_exchanged (links 2 5 10) 0 ≡ (pos 21, pos 0))
-      × (answer_in absence_exchanged (returns 5) 0 ≡ (pos 0, pos 0)) × (answer_in absence_exchanged (fires 5) 0 ≡ (pos 17, pos 8))
-  pub back : (cell_in absence_exchanged (presence_of 5) ≡ pos 1) × (cell_in absence_exchanged (sensors_of 5) ≡ pos 0)
   -- "empty ones too"
   pub empty : Given entries_clash same_entry counter fresh fresh [] [] [] [] [] []
   pub alike-empty : EndAlike same_entry [] [] (run counter fresh [] []) (run counter fresh [] [])

@@ -29,12 +29,6 @@ links a b distance = record { tag = 0x13; body = a ∷ b ∷ 0 ∷ 0 ∷ 0 ∷ d
 abbrev pub signals : ℕ → ℕ → ℕ → Entry
 signals a s v = record { tag = 0x14; body = a ∷ s ∷ v ∷ [] }
 
-abbrev pub leaves : ℕ → Entry
-leaves a = record { tag = 0x15; body = a ∷ [] }
-
-abbrev pub returns : ℕ → Entry
-returns a = record { tag = 0x16; body = a ∷ [] }
-
 -- device 1 fires twice, its messages to 2 and to 3 are lost and received; a round that faults; refusals 16 and 15
 abbrev pub left : List Entry
 left =
@@ -54,13 +48,6 @@ shift = left ++ (right ++ closing)
 
 abbrev pub exchanged : List Entry
 exchanged = right ++ (left ++ closing)
-
--- L5, a shorter pair: device 5 leaves and returns, and events exchange places while it is gone; its sensor is signalled before, and a second time then
-abbrev pub absence : List Entry
-absence = signals 5 0 1 ∷ leaves 5 ∷ signals 5 0 1 ∷ links 2 5 10 ∷ returns 5 ∷ fires 5 ∷ []
-
-abbrev pub absence_exchanged : List Entry
-absence_exchanged = signals 5 0 1 ∷ leaves 5 ∷ links 2 5 10 ∷ signals 5 0 1 ∷ returns 5 ∷ fires 5 ∷ []
 
 -- a list as bytes
 abbrev pub bytes : List Entry → List ℕ

@@ -12,7 +12,7 @@ fn read(folder: &Path, name: &str) -> Option<Vec<u8>> {
 }
 
 fn replayed(program: &[u8], list: &[u8]) -> String {
-    let mut network = vec![0; 8736];
+    let mut network = vec![0; 8720];
     assert_eq!(second::fresh(&mut network), (0, 0));
     // More space than answers: a mark that no answer has shows where they end.
     let mut space = vec![i32::MIN; 2048];

@@ -25,7 +25,7 @@ pub const NOW: Sizes = Sizes { cells: network::CELLS, answer: 2 };
 /// Which engine it is.
 #[derive(Clone, Copy, PartialEq)]
 pub enum Which {
-    /// The older library, which may not know every kind of node or event, nor read texts.
+    /// The older library, which may not know every kind of node, nor read texts.
     Older,
     #[cfg(feature = "proved")]
     Proved,
@@ -102,32 +102,19 @@ pub fn table(draft: &Draft) -> Vec<u8> {
     bytes(&write(draft, true, &mut Random::new(1, 1)).fields)
 }
 
-/// (1), which every engine accepts.
-fn one() -> Vec<u8> {
-    table(&Draft { definitions: vec![], main: Tree::constant(1), orphans: vec![] })
-}
-
 impl Timed {
     /// Whether the engine can be given this program: an older one refuses kinds that came later (3).
     pub fn knows(&self, program: &[u8]) -> bool {
         self.which != Which::Older || self.engine.check(program).0 != 3
     }
 
-    /// Whether the engine can be given these events: an older one refuses tags that came later (12, before it asks for space).
-    pub fn knows_events(&self, list: &[u8]) -> bool {
-        self.which != Which::Older || {
-            let mut network = vec![0; self.sizes.cells];
-            assert_eq!(self.engine.fresh(&mut network), (0, 0));
-            self.engine.run(&one(), &mut network, list, &mut []).0 != 12
-        }
-    }
-
     /// Whether the engine takes networks of its size, and fills exactly its size of an answer.
     pub fn has_its_sizes(&self) -> bool {
+        let one = table(&Draft { definitions: vec![], main: Tree::constant(1), orphans: vec![] });
         let mut network = vec![0; self.sizes.cells];
         let mut answer = vec![network::ABSENT; self.sizes.answer];
         self.engine.fresh(&mut network) == (0, 0)
-            && self.engine.event(&one(), &mut network, &events::signal(1, 1, 1), &mut answer) == (0, 0)
+            && self.engine.event(&one, &mut network, &events::signal(1, 1, 1), &mut answer) == (0, 0)
             && !answer.contains(&network::ABSENT)
     }
 }

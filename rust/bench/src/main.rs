@@ -156,9 +156,7 @@ fn main() -> ExitCode {
         println!("Before: {before}. What that engine left is not compared.");
     }
     if engines.iter().any(|timed| timed.which == Which::Older) {
-        println!(
-            "`-` stands at what the older library does not know: a kind of node or of event, or the reading of texts."
-        );
+        println!("`-` stands at what the older library does not know: a kind of node, or the reading of texts.");
     }
     println!("`-` stands for the second engine where it would need too much memory (a text without its ends).");
     if long {

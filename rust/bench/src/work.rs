@@ -99,18 +99,13 @@ impl Work {
         }
     }
 
-    /// All lists that an engine is given, those of the start too.
-    fn events(&self) -> impl Iterator<Item = &[u8]> {
-        self.start.iter().flat_map(|start| &start.list).chain(&self.lists).map(|list| &list[..])
-    }
-
     /// Whether an engine can be given the work.
     fn is_for(&self, timed: &Timed) -> bool {
         match self.call {
             Call::ReadText => {
                 timed.reader.is_some() && (timed.which != Which::Second || self.effort != Effort::NotSecond)
             }
-            _ => timed.knows(&self.program) && self.events().all(|list| timed.knows_events(list)),
+            _ => timed.knows(&self.program),
         }
     }
 

@@ -238,22 +238,7 @@ fn single_events() -> Vec<Work> {
     }
     all.push(in_use());
     all.push(silent());
-    all.extend(departures());
     all
-}
-
-/// Device 2 leaves and comes back, an event a call; a signal, where every other device has left.
-fn departures() -> [Work; 2] {
-    let program = distance_to();
-    let gone = Start { program: program.clone(), list: (2..=16).step_by(2).map(events::leave).collect() };
-    let signal = vec![events::signal(1, 1, 1)];
-    [
-        event("one event: leave and return in turn: each", &program, vec![events::leave(2), events::back(2)], 500),
-        Work {
-            start: Some(gone),
-            ..event("one event: signal, with half of the devices gone", &program, signal, 1_000)
-        },
-    ]
 }
 
 /// A grid in which all have heard each other: the events of its next turns, an event a call.

@@ -27,27 +27,9 @@ pub fn signal(a: u8, sensor: u8, switch: u8) -> Event {
     vec![0x14, 0, 3, a, sensor, switch]
 }
 
-pub fn leave(a: u8) -> Event {
-    vec![0x15, 0, 1, a]
-}
-
-pub fn back(a: u8) -> Event {
-    vec![0x16, 0, 1, a]
-}
-
-/// One of these devices leaves, or, more often, comes back, so that most are present; 21 and 22 come by themselves.
-fn leaves_or_returns(devices: &[u8], random: &mut Random) -> Event {
-    let a = random.pick(devices);
-    if random.chance(25) {
-        leave(a)
-    } else {
-        back(a)
-    }
-}
-
 const DISTANCES: [i32; 9] = [0, 0, 1, 3, 10, 999_999, 1_000_000, i32::MIN, i32::MIN];
 
-/// One event of those who are there among these devices; 14 and 15 come seldom, 16 and 17 by themselves.
+/// One event among these devices; 14 and 15 come seldom, 16 and 17 by themselves.
 pub fn any(devices: &[u8], odd: usize, random: &mut Random) -> Event {
     if random.chance(odd) {
         return odd_one(devices, random);
@@ -79,7 +61,7 @@ fn odd_one(devices: &[u8], random: &mut Random) -> Event {
     let far = random.pick(&[1_000_001, 1_000_002, -1, -1_000_000, i32::MAX, -i32::MAX, 1 << 24]);
     let sensor = random.pick(&[16, 17, 31, 32, 255]);
     let switch = random.pick(&[2, 3, 128, 255]);
-    match random.below(20) {
+    match random.below(18) {
         0 => fire(out),
         1 => deliver(out, b),
         2 => deliver(a, out),
@@ -97,26 +79,13 @@ fn odd_one(devices: &[u8], random: &mut Random) -> Event {
         14 => lose(out, random.pick(&[0, 17, 255])),
         15 => link(out, b, far),
         16 => signal(a, sensor, switch),
-        17 => leave(out),
-        18 => back(out),
         _ => link(a, a, random.pick(&[0, 5, i32::MIN, far])),
     }
 }
 
-/// A list of events; in half of all lists no device leaves or comes back.
 pub fn list(length: usize, devices: &[u8], odd: usize, random: &mut Random) -> Vec<Event> {
-    let moves = random.pick(&[0, 0, 4, 12]);
-    list_with(moves, length, devices, odd, random)
-}
-
-/// The same with so many percent of departures and returns.
-pub fn list_with(moves: usize, length: usize, devices: &[u8], odd: usize, random: &mut Random) -> Vec<Event> {
     let mut events = vec![];
     while events.len() < length {
-        if random.chance(moves) {
-            events.push(leaves_or_returns(devices, random));
-            continue;
-        }
         // Now and then one device does several rounds, in which what it heard fades.
         if random.chance(4) {
             let rounds = random.between(2, 5);
@@ -137,63 +106,44 @@ pub struct Malformed {
 }
 
 /// The labels of malformed lists.
-pub const LABELS: [&str; 8] = [
+pub const LABELS: [&str; 6] = [
     "12 unknown tag",
     "12 wrong length",
-    "12 wrong length of a departure",
-    "12 wrong length of a return",
     "12 wrong length in the high byte",
     "12 cut short",
     "12 after 300 events",
     "12 after 3,000 events",
 ];
 
-/// A field with this tag and a body of this length.
-fn field(tag: u8, length: usize, random: &mut Random) -> Event {
-    let junk = (0..length).map(|_| random.byte() % 18);
-    [tag, 0, length as u8].into_iter().chain(junk).collect()
-}
-
-/// An event with a body of another length, and its label.
-fn of_wrong_length(random: &mut Random) -> (&'static str, Event) {
-    let tag = random.below(7);
-    let right = [1, 2, 2, 6, 3, 1, 1][tag];
-    let wrong: Vec<usize> = (0..=8).filter(|length| *length != right).collect();
-    let length = random.pick(&wrong);
-    let label = match tag {
-        5 => "12 wrong length of a departure",
-        6 => "12 wrong length of a return",
-        _ => "12 wrong length",
-    };
-    (label, field(0x10 + tag as u8, length, random))
-}
-
 /// A field that is no event, its label, and whether it is whole.
 fn bad_field(devices: &[u8], random: &mut Random) -> (&'static str, Event, bool) {
-    let good = |random: &mut Random| match random.chance(20) {
-        true => leaves_or_returns(devices, random),
-        false => any(devices, 10, random),
+    let field = |tag: u8, length: usize, random: &mut Random| {
+        let junk = (0..length).map(|_| random.byte() % 18);
+        [tag, 0, length as u8].into_iter().chain(junk).collect()
     };
     match random.below(4) {
         0 => {
-            let tag = random.pick(&[0, 1, 2, 3, 0x0f, 0x17, 0x17, 0x18, 0x20, 0x90, 0x95, 255]);
-            let length = random.pick(&[0, 1, 1, 2, 3, 6, 7]);
+            let tag = random.pick(&[0, 1, 2, 3, 0x0f, 0x15, 0x16, 0x17, 0x20, 0x90, 255]);
+            let length = random.pick(&[0, 1, 2, 3, 6, 7]);
             ("12 unknown tag", field(tag, length, random), true)
         }
         1 => {
-            let (label, event) = of_wrong_length(random);
-            (label, event, true)
+            let tag = random.below(5);
+            let right = [1, 2, 2, 6, 3][tag];
+            let wrong: Vec<usize> = (0..=8).filter(|length| *length != right).collect();
+            let length = random.pick(&wrong);
+            ("12 wrong length", field(0x10 + tag as u8, length, random), true)
         }
         2 => {
             // The length's high byte counts.
-            let mut event = good(random);
+            let mut event = any(devices, 10, random);
             event[1] = random.between(1, 3) as u8;
             let body = usize::from(event[1]) * 256 + usize::from(event[2]);
             event.resize(3 + body, 1);
             ("12 wrong length in the high byte", event, true)
         }
         _ => {
-            let mut event = good(random);
+            let mut event = any(devices, 10, random);
             event.truncate(random.between(1, event.len() - 1));
             ("12 cut short", event, false)
         }
@@ -217,12 +167,8 @@ pub fn malformed(length: usize, devices: &[u8], random: &mut Random) -> Malforme
     Malformed { label, list: bytes, run: place(length), event: place(length.min(1)) }
 }
 
-/// Whether two events clash, by 01's list and 02's L5: who leaves or comes back clashes with all.
+/// Whether two events clash, by 01's list.
 pub fn clash(one: &[u8], two: &[u8]) -> bool {
-    let moves = |event: &[u8]| event[0] == 0x15 || event[0] == 0x16;
-    if moves(one) || moves(two) {
-        return true;
-    }
     let fires = |one: &[u8], two: &[u8]| {
         let a = one[3];
         one[0] == 0x10
@@ -276,35 +222,6 @@ mod tests {
         assert!(clash(&signal(1, 2, 0), &signal(1, 2, 1)));
         assert!(!clash(&signal(1, 2, 0), &signal(1, 3, 0)));
         assert!(!clash(&signal(1, 2, 0), &link(1, 2, 0)));
-    }
-
-    #[test]
-    fn departures_and_returns_clash_with_all() {
-        for moves in [leave(1), back(1), leave(99), back(0)] {
-            for other in [
-                fire(1),
-                fire(2),
-                deliver(1, 2),
-                deliver(3, 4),
-                lose(3, 4),
-                link(3, 4, 5),
-                signal(9, 2, 0),
-                fire(0),
-                leave(1),
-                leave(2),
-                back(1),
-                back(2),
-            ] {
-                assert!(clash(&moves, &other) && clash(&other, &moves), "{moves:?} {other:?}");
-            }
-        }
-    }
-
-    #[test]
-    fn some_lists_have_departures() {
-        let mut random = Random::new(6, 6);
-        let with = (0..100).filter(|_| list(50, &[1, 2], 0, &mut random).iter().any(|event| event[0] >= 0x15)).count();
-        assert!((30..=60).contains(&with), "{with} of 100");
     }
 
     #[test]

@@ -183,8 +183,8 @@ impl Ground {
                 space: 2,
                 ..self.fine(random)
             },
-            0..=72 => self.fine(random),
-            73..=83 => {
+            0..=74 => self.fine(random),
+            75..=83 => {
                 let unsound = network::unsound(&self.devices, random);
                 Case { label: unsound.label, network: unsound.cells, expected: unsound.expected, ..self.fine(random) }
             }

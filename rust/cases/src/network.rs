@@ -4,11 +4,11 @@ use crate::broken::Expected;
 use crate::random::Random;
 
 pub const ABSENT: i32 = i32::MIN;
-pub const BLOCK: usize = 546;
+pub const BLOCK: usize = 545;
 pub const CELLS: usize = 16 * BLOCK;
-/// Lengths that no network has: 8,464 was the length before ages, 8,720 before presence.
-pub const WRONG_LENGTHS: [usize; 11] =
-    [0, 1, 16, BLOCK, CELLS - BLOCK, 8_464, 8_720, CELLS - 1, CELLS + 1, CELLS + 16, CELLS + BLOCK];
+/// Lengths that no network has: 8,464 was the length before ages.
+pub const WRONG_LENGTHS: [usize; 10] =
+    [0, 1, 16, BLOCK, CELLS - BLOCK, 8_464, CELLS - 1, CELLS + 1, 8_736, CELLS + BLOCK];
 
 pub fn variable(a: usize, v: usize) -> usize {
     (a - 1) * BLOCK + v
@@ -33,11 +33,6 @@ pub fn age(a: usize, b: usize) -> usize {
     (a - 1) * BLOCK + 529 + (b - 1)
 }
 
-/// 1 where a is present, 0 where it is gone.
-pub fn presence(a: usize) -> usize {
-    (a - 1) * BLOCK + 545
-}
-
 /// Whether a has heard b in a slot 1 to 15.
 pub fn hears(cells: &[i32], a: usize, b: usize) -> bool {
     cells[heard(a, b, 1)..=heard(a, b, 15)].iter().any(|slot| *slot != ABSENT)
@@ -47,20 +42,11 @@ pub fn fresh() -> Vec<i32> {
     let mut cells = vec![ABSENT; CELLS];
     for a in 1..=16 {
         cells[sensors(a)] = 0;
-        cells[presence(a)] = 1;
         for b in 1..=16 {
             cells[pending(a, b, 0)] = 0;
         }
     }
     cells
-}
-
-/// Makes a device gone by hand: what is pending from it stays, and so does all that others hold of it.
-pub fn make_gone(cells: &mut [i32], a: usize) {
-    cells[variable(a, 0)..pending(a, 1, 0)].fill(ABSENT);
-    cells[sensors(a)] = 0;
-    cells[age(a, 1)..=age(a, 16)].fill(ABSENT);
-    cells[presence(a)] = 0;
 }
 
 /// The devices that a case lets act; few, so that they meet.
@@ -78,20 +64,13 @@ pub fn devices(random: &mut Random) -> Vec<u8> {
     all
 }
 
-/// A sound network; busy among `devices`, as when fresh elsewhere or busy everywhere. In some of them devices are gone.
+/// A sound network; busy among `devices`, as when fresh elsewhere or busy everywhere.
 pub fn sound(devices: &[u8], random: &mut Random) -> Vec<i32> {
-    let mut cells = match random.below(10) {
+    match random.below(10) {
         0..=2 => fresh(),
         3..=8 => busy(devices, random),
         _ => busy(&(1..=16).collect::<Vec<u8>>(), random),
-    };
-    let gone = random.pick(&[0, 0, 0, 0, 20, 40]);
-    for a in devices {
-        if random.chance(gone) {
-            make_gone(&mut cells, usize::from(*a));
-        }
     }
-    cells
 }
 
 /// A sound network, busy among `devices` and as when fresh elsewhere.
@@ -136,7 +115,7 @@ pub fn busy(devices: &[u8], random: &mut Random) -> Vec<i32> {
 }
 
 /// The labels of unsound networks.
-pub const LABELS: [&str; 37] = [
+pub const LABELS: [&str; 22] = [
     "11 sensors below 0",
     "11 sensors above 65,535",
     "11 distance below 0",
@@ -157,97 +136,15 @@ pub const LABELS: [&str; 37] = [
     "11 mark and age of one device",
     "11 ages of two senders",
     "11 age and the next device's sensors",
-    "11 presence above 1",
-    "11 presence below 0",
-    "11 presence absent",
-    "11 presence and a lower cell of its device",
-    "11 presence and the next device's sensors",
-    "11 variable of a gone device",
-    "11 variable 0 of device 1, gone",
-    "11 sensors of a gone device",
-    "11 distance of a gone device",
-    "11 slot heard by a gone device",
-    "11 age of a gone device",
-    "11 two cells of a gone device",
-    "11 mark of a gone device",
-    "11 mark and age of a gone device",
-    "11 slot of a gone device where the mark is 0",
     "11 several cells",
     "11 wrong length",
 ];
 
 /// Breaks a rule of a network, sometimes two; the label and the lowest cell that offends.
 fn spoil(cells: &mut [i32], random: &mut Random) -> (&'static str, usize) {
-    match random.below(10) {
-        0..=2 => spoil_ages(cells, random),
-        3 => spoil_presence(cells, random),
-        4..=5 => spoil_gone(cells, random),
-        _ => spoil_others(cells, random),
-    }
-}
-
-/// Breaks a presence cell, alone or with another cell.
-fn spoil_presence(cells: &mut [i32], random: &mut Random) -> (&'static str, usize) {
-    let a = random.between(1, 16);
-    let mut put = |place: usize, number: i32| {
-        cells[place] = number;
-        place
-    };
-    match random.below(5) {
-        0 => ("11 presence above 1", put(presence(a), random.pick(&[2, 3, 256, 65_536, i32::MAX]))),
-        1 => ("11 presence below 0", put(presence(a), random.pick(&[-1, -2, -256, -i32::MAX]))),
-        2 => ("11 presence absent", put(presence(a), ABSENT)),
-        3 => {
-            put(presence(a), random.pick(&[2, -1, ABSENT]));
-            let b = a % 16 + 1;
-            let lower = [(sensors(a), -1), (heard(a, a, 0), 5), (pending(a, b, 0), 2), (age(a, a), 0), (age(a, b), 3)];
-            let (place, number) = random.pick(&lower);
-            ("11 presence and a lower cell of its device", put(place, number))
-        }
-        _ => {
-            let a = a.min(15);
-            put(sensors(a + 1), random.pick(&[-1, 65_536]));
-            ("11 presence and the next device's sensors", put(presence(a), random.pick(&[2, -1, ABSENT])))
-        }
-    }
-}
-
-/// Makes a device gone, and breaks a rule of one that is, sometimes two.
-fn spoil_gone(cells: &mut [i32], random: &mut Random) -> (&'static str, usize) {
-    let (first, number) = (random.chance(10), random.number());
-    let (a, v) = if first { (1, 0) } else { (random.between(1, 16), random.pick(&[0, 3, 8, 15])) };
-    let b = (a + random.between(1, 15) - 1) % 16 + 1;
-    let i = random.between(1, 15);
-    make_gone(cells, a);
-    let mut put = |place: usize, number: i32| {
-        cells[place] = number;
-        place
-    };
-    match random.below(9) {
-        _ if first => ("11 variable 0 of device 1, gone", put(variable(1, 0), number)),
-        0 => ("11 variable of a gone device", put(variable(a, v), number)),
-        1 => ("11 sensors of a gone device", put(sensors(a), random.pick(&[1, 2, 32_768, 65_535, 65_536, -1]))),
-        2 => ("11 distance of a gone device", put(heard(a, b, 0), random.pick(&[0, 1, 1_000_000, 1_000_001, -1]))),
-        3 => {
-            put(age(a, b), random.pick(&[ABSENT, 0, 1, 2, 3]));
-            ("11 slot heard by a gone device", put(heard(a, b, i), number))
-        }
-        4 => ("11 age of a gone device", put(age(a, b), random.pick(&[0, 1, 2, 2, 3, -1]))),
-        5 => {
-            let own = [variable(a, v), sensors(a), heard(a, b, 0), heard(a, b, i), age(a, b)];
-            let places = [random.pick(&own), random.pick(&own)].map(|place| put(place, random.between(1, 2) as i32));
-            ("11 two cells of a gone device", places[0].min(places[1]))
-        }
-        6 => ("11 mark of a gone device", put(pending(a, b, 0), random.pick(&[2, 3, -1, ABSENT]))),
-        7 => {
-            put(age(a, b), random.pick(&[0, 1, 2]));
-            ("11 mark and age of a gone device", put(pending(a, b, 0), random.pick(&[2, -1, ABSENT])))
-        }
-        _ => {
-            put(pending(a, b, 0), 0);
-            (1..16).for_each(|slot| _ = put(pending(a, b, slot), ABSENT));
-            ("11 slot of a gone device where the mark is 0", put(pending(a, b, i), number))
-        }
+    match random.chance(40) {
+        true => spoil_ages(cells, random),
+        false => spoil_others(cells, random),
     }
 }
 
@@ -277,10 +174,9 @@ fn spoil_age(cells: &mut [i32], a: usize, b: usize, random: &mut Random) -> usiz
     age(a, b)
 }
 
-/// Breaks an age of a present device, alone or with another cell.
+/// Breaks an age, alone or with another cell.
 fn spoil_ages(cells: &mut [i32], random: &mut Random) -> (&'static str, usize) {
     let a = random.between(1, 16);
-    cells[presence(a)] = 1;
     let mut others: Vec<usize> = (1..=16).filter(|b| *b != a).collect();
     random.shuffle(&mut others);
     let (b, c) = (others[0], others[1]);
@@ -309,7 +205,6 @@ fn spoil_ages(cells: &mut [i32], random: &mut Random) -> (&'static str, usize) {
         }
         _ => {
             let (a, b) = if a == 16 { (15, 16) } else { (a, b) };
-            put(presence(a), 1);
             put(sensors(a + 1), random.pick(&[-1, 65_536]));
             ("11 age and the next device's sensors", spoil_age(cells, a, b, random))
         }

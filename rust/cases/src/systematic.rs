@@ -1,9 +1,6 @@
 //! Cases that leave little to chance: every pair of edge numbers, every domain of few devices and of most, every cell,
 //! every age, what nbr-range and nbr-lag may meet, also beside nbr in a rep, short histories of what is heard, every
-//! truncation, bit and event byte of some programs and events, and two long runs; with gone devices (`departures`) every
-//! cell, event and short history once more.
-
-mod departures;
+//! truncation, bit and event byte of some programs and events, and two long runs.
 
 use crate::grow::{self, Shape};
 use crate::network::ABSENT;
@@ -56,7 +53,7 @@ fn written(draft: Draft) -> Vec<u8> {
 }
 
 /// The labels of all systematic cases.
-pub const LABELS: [&str; 18] = [
+pub const LABELS: [&str; 13] = [
     "each pair of edge numbers",
     "each domain",
     "each cell",
@@ -70,11 +67,6 @@ pub const LABELS: [&str; 18] = [
     "each byte of an event",
     "each truncation of an event",
     "run of 20,000 events",
-    "each cell with gone devices",
-    "each presence",
-    "each event with gone devices",
-    "each pair with one gone",
-    "each history of departures",
 ];
 
 /// All systematic cases. One call each; `see` gets them in turn.
@@ -92,7 +84,6 @@ pub fn all(see: &mut dyn FnMut(Case)) {
         event_bytes(measure, see);
         see(long_run(measure));
     }
-    departures::all(see);
 }
 
 /// Each operator on each pair of edge numbers: as numbers, as a field and a number both ways round, as two fields, folded.
@@ -431,7 +422,7 @@ fn full_table(see: &mut dyn FnMut(Case)) {
     }
 }
 
-/// A run of 20,000 events of all devices, by each measure; in the second some leave and come back.
+/// A run of 20,000 events of all devices, by each measure.
 pub fn long_runs() -> [Case; 2] {
     MEASURES.map(long_run)
 }
@@ -441,39 +432,28 @@ fn long_run(measure: u8) -> Case {
     let program = bytes(&write(&grow::distance_to(measure, [1, 2], 0), true, &mut random).fields);
     Case {
         network: network::busy(&ALL, &mut random),
-        list: events::list_with(usize::from(measure == 13), 20_000, &ALL, 5, &mut random).concat(),
+        list: events::list(20_000, &ALL, 5, &mut random).concat(),
         space: 40_000,
         expected: crate::DONE,
         ..case("run of 20,000 events", Call::Run, &program)
     }
 }
 
-/// A network where 1, 2 and 16 can do all, and 3 and 4 are gone; messages to and from 3 are pending.
-fn with_all_possible() -> Vec<i32> {
+/// Each byte of each event over all its values, on a network where the event is possible, with a program of this measure.
+fn event_bytes(measure: u8, see: &mut dyn FnMut(Case)) {
+    let program = written(grow::distance_to(measure, [1, 2], 0));
     let mut cells = network::fresh();
     for (a, b) in [(1, 2), (2, 1), (1, 16), (16, 1)] {
         cells[network::heard(a, b, 0)] = 5;
         cells[network::pending(a, b, 0)] = 1;
         cells[network::pending(a, b, 1)] = 8;
     }
-    network::make_gone(&mut cells, 3);
-    network::make_gone(&mut cells, 4);
-    cells[network::pending(1, 3, 0)] = 1;
-    cells[network::pending(3, 2, 0)] = 1;
-    cells
-}
-
-/// Each byte of each event over all its values, on a network where the event is possible, with a program of this measure.
-fn event_bytes(measure: u8, see: &mut dyn FnMut(Case)) {
-    let (program, cells) = (written(grow::distance_to(measure, [1, 2], 0)), with_all_possible());
     let samples = [
         events::fire(1),
         events::deliver(1, 2),
         events::lose(16, 1),
         events::link(1, 2, 1_000_000),
         events::signal(2, 1, 1),
-        events::leave(2),
-        events::back(3),
     ];
     for event in samples {
         for at in 0..event.len() {

@@ -24,10 +24,6 @@ pub enum Answer {
     NothingPending,
     /// 17: this node divided by 0.
     DividedByZero(i32),
-    /// 21: a device of the event is gone.
-    Gone,
-    /// 22: the device to bring back is present.
-    Present,
 }
 
 impl Answer {
@@ -39,13 +35,11 @@ impl Answer {
             [15, 0] => Answer::Itself,
             [16, 0] => Answer::NothingPending,
             [17, node] => Answer::DividedByZero(node),
-            [21, 0] => Answer::Gone,
-            [22, 0] => Answer::Present,
             _ => return None,
         })
     }
 
-    /// The answer's first number: 0, 14 to 17, 21 or 22.
+    /// The answer's first number: 0, or 14 to 17.
     pub fn number(self) -> u32 {
         match self {
             Answer::Done { .. } => 0,
@@ -53,8 +47,6 @@ impl Answer {
             Answer::Itself => 15,
             Answer::NothingPending => 16,
             Answer::DividedByZero(_) => 17,
-            Answer::Gone => 21,
-            Answer::Present => 22,
         }
     }
 

@@ -11,11 +11,8 @@
 //!
 //! What is heard fades: a delivery sets the hearer's [`age`] for the sender to 0, each round that the hearer completes
 //! adds 1, and what three rounds have read is gone, but for the distance (`docs/MANUAL.md`, 6).
-//!
-//! A device that is gone ([`presence`] 0) has its own cells as when fresh, but for messages pending from it; else 11
-//! names the cell.
 
-use crate::{BLOCK, DEVICES, FIRST_AGE, FIRST_HEARD, FIRST_PENDING, FIRST_PRESENCE, FIRST_SENSORS, ROW, VARIABLES};
+use crate::{BLOCK, DEVICES, FIRST_AGE, FIRST_HEARD, FIRST_PENDING, FIRST_SENSORS, ROW, VARIABLES};
 
 /// How far the number is above `least`, where it is one of the `count` numbers from there on.
 fn above(number: i64, least: i64, count: usize) -> Option<usize> {
@@ -59,12 +56,6 @@ pub fn heard(a: i64, b: i64, i: i64) -> Option<usize> {
 #[must_use]
 pub fn age(a: i64, b: i64) -> Option<usize> {
     Some(block(a)? + FIRST_AGE + above(b, 1, DEVICES)?)
-}
-
-/// 1 if `a` is present, 0 if it is gone.
-#[must_use]
-pub fn presence(a: i64) -> Option<usize> {
-    Some(block(a)? + FIRST_PRESENCE)
 }
 
 /// 1 if a message is pending from `a` to `b`, else 0.

@@ -26,8 +26,6 @@ const DELIVER: u8 = 0x11;
 const LOSE: u8 = 0x12;
 const LINK: u8 = 0x13;
 const SIGNAL: u8 = 0x14;
-const LEAVE: u8 = 0x15;
-const RETURN: u8 = 0x16;
 
 /// Why an event was not written.
 #[derive(Clone, Copy, Debug, PartialEq, Eq)]
@@ -89,19 +87,6 @@ impl Event {
     /// The sensor of `a`, 0 to 15, is lit (1) or not (0).
     pub fn signal(a: i64, sensor: i64, lit: i64) -> Result<Event, NotWritten> {
         Ok(Event::new([SIGNAL, 0, 3, byte(a)?, byte(sensor)?, byte(lit)?]))
-    }
-
-    /// Device `a` leaves: its variables, links, sensors, what it heard and the ages are as when fresh, messages to it
-    /// are thrown away, and all others forget what they heard from it, its age and their link to it. What is pending
-    /// from it stays. To be done on every tablet ([`messages`](crate::messages)).
-    pub fn leave(a: i64) -> Result<Event, NotWritten> {
-        Ok(Event::new([LEAVE, 0, 1, byte(a)?]))
-    }
-
-    /// Device `a` comes back (the event return, which is a word of Rust), with nothing but what is still pending from
-    /// it; links are given anew. To be done on every tablet ([`messages`](crate::messages)).
-    pub fn come_back(a: i64) -> Result<Event, NotWritten> {
-        Ok(Event::new([RETURN, 0, 1, byte(a)?]))
     }
 
     /// The event as bytes.
@@ -186,15 +171,5 @@ impl<'a> List<'a> {
     /// Appends [`Event::signal`].
     pub fn signal(&mut self, a: i64, sensor: i64, lit: i64) -> Result<(), NotWritten> {
         self.add(Event::signal(a, sensor, lit)?)
-    }
-
-    /// Appends [`Event::leave`].
-    pub fn leave(&mut self, a: i64) -> Result<(), NotWritten> {
-        self.add(Event::leave(a)?)
-    }
-
-    /// Appends [`Event::come_back`].
-    pub fn come_back(&mut self, a: i64) -> Result<(), NotWritten> {
-        self.add(Event::come_back(a)?)
     }
 }

@@ -9,8 +9,6 @@
 //!         Answer::Itself => 15,
 //!         Answer::NothingPending => 16,
 //!         Answer::DividedByZero(_) => 17,
-//!         Answer::Gone => 21,
-//!         Answer::Present => 22,
 //!     }
 //! }
 //! ```

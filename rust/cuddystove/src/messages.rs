@@ -14,12 +14,6 @@
 //! it with the receipt, so that the office can set the delivery between the right two fires. A message is logged as
 //! received or as lost, not as both.
 //!
-//! A departure or a return is everybody's event: each tablet does and logs it, all of them in one order, those that it
-//! lacks before its next event once it hears from a tablet that has done them (send along how many;
-//! `docs/MANUAL.md`, 11). So the presence cells of all networks agree, and the office takes one of sixteen where each
-//! log has come to it. Messages to a device that leaves are thrown away for good, also those that reach it after its
-//! return; those from it can still arrive.
-//!
 //! Proved (demand 3): any two orders of all the tablets' events that keep clashing events in order give the office
 //! equal networks and answers. Not proved, and tried by `examples/tablets.c`: that tablet a has in its own block, but
 //! for the pending rows, and answers, what the office's one network has and answers; it follows from what each event
@@ -61,13 +55,12 @@
 //! # Ok::<(), Box<dyn std::error::Error>>(())
 //! ```
 
-use crate::cells::{is_pending, presence};
+use crate::cells::is_pending;
 use crate::{ABSENT, CELLS, LONGEST_MESSAGE, ROW};
 
 /// Takes the message pending from `a` to `b` out of the network: gives its bytes, 4 to 64, which then stand at the
 /// beginning of `message`, and it is no longer pending. None, with nothing written, where none is pending, where there
-/// are no such two devices, and where the network is not [`CELLS`] long. Presence does not matter: what is pending from
-/// a gone device can be taken, and sent, too.
+/// are no such two devices, and where the network is not [`CELLS`] long.
 #[must_use]
 pub fn take<'a>(network: &mut [i32], a: i64, b: i64, message: &'a mut [u8; LONGEST_MESSAGE]) -> Option<&'a [u8]> {
     let row = pending_row(network, a, b)?;
@@ -90,16 +83,11 @@ pub fn take<'a>(network: &mut [i32], a: i64, b: i64, message: &'a mut [u8; LONGE
 
 /// Puts a message that was received, as [`take`] gave it, into the network as pending, in place of what may be pending
 /// there. Gives its sender and hearer, as [`Event::deliver`](crate::events::Event::deliver) wants them. None, with
-/// nothing written, for bytes that [`take`] never gives, where the network is not [`CELLS`] long, and where the hearer
-/// is not present in it: that departure has thrown the message away, and neither a receipt nor a loss of it would be
-/// done (21). The sender may be gone.
+/// nothing written, for bytes that [`take`] never gives, and where the network is not [`CELLS`] long.
 #[must_use]
 pub fn put(network: &mut [i32], message: &[u8]) -> Option<(i64, i64)> {
     let (&[sender, hearer, high, low], numbers) = message.split_first_chunk()?;
     let (a, b) = (i64::from(sender), i64::from(hearer));
-    if network.get(presence(b)?) != Some(&1) {
-        return None;
-    }
     let row = pending_row(network, a, b)?;
     *row = row_of(u16::from_be_bytes([high, low]), numbers)?;
     Some((a, b))

@@ -14,7 +14,7 @@ pub const FLOOR: i32 = -INF;
 /// Devices of a network, numbered 1 to 16.
 pub const DEVICES: usize = 16;
 /// Cells of one device's block.
-pub const BLOCK: usize = 546;
+pub const BLOCK: usize = 545;
 /// Cells of a network: the only length that it may have.
 pub const CELLS: usize = DEVICES * BLOCK;
 /// Variables of a device, 0 to 15.
@@ -31,8 +31,6 @@ pub const FIRST_HEARD: usize = 17;
 pub const FIRST_PENDING: usize = 273;
 /// Where in a block the first age stands, that for device 1.
 pub const FIRST_AGE: usize = 529;
-/// Where in a block the cell stands that says whether the device is present.
-pub const FIRST_PRESENCE: usize = 545;
 /// The largest distance.
 pub const FARTHEST: i32 = 1_000_000;
 /// The largest age.

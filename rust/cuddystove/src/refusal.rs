@@ -12,8 +12,7 @@ pub struct Refusal {
     /// A short name for the number.
     pub name: &'static str,
     /// Where: a field of the program, a node, a cell or an event, all counted from 0; of 19 how many bytes of the text
-    /// begin one of the notation; else 0. 11 with place 0 is a wrong length, or cell 0, of a device 1 that is gone: the
-    /// length that was passed tells which.
+    /// begin one of the notation; else 0.
     pub place: usize,
 }
 
@@ -67,9 +66,11 @@ fn outside(f: &mut fmt::Formatter, sentence: &str, place: usize) -> fmt::Result 
     }
 }
 
-/// 11: place 0 is the network's length, or its cell 0; the refusal does not know the length.
+/// 11: cell 0 may hold every number, so place 0 is the network's length.
 fn unsound(f: &mut fmt::Formatter, place: usize) -> fmt::Result {
+    if place == 0 {
+        return f.write_str("The network is not 8,720 cells long.");
+    }
     let (device, cell) = (place / BLOCK + 1, place % BLOCK);
-    let which = if place == 0 { "The network is not 8,736 cells long, or cell" } else { "Cell" };
-    write!(f, "{which} {place} of the network holds what it may not (device {device}, cell {cell} of its block).")
+    write!(f, "Cell {place} of the network holds what it may not (device {device}, cell {cell} of its block).")
 }

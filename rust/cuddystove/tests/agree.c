@@ -32,14 +32,13 @@ static void cells(int64_t a, int64_t b, int64_t i) {
     index_is(cuddystove_at_distance(a, b));
     index_is(cuddystove_at_heard(a, b, i));
     index_is(cuddystove_at_age(a, b));
-    index_is(cuddystove_at_presence(a));
     index_is(cuddystove_at_is_pending(a, b));
     index_is(cuddystove_at_pending(a, b, i));
 }
 
 static void events(int64_t a, int64_t b, int64_t c, size_t room) {
     int which;
-    for (which = 0; which < 8; which++) {
+    for (which = 0; which < 6; which++) {
         uint8_t bytes[CUDDYSTOVE_LONGEST_EVENT];
         struct cuddystove_list list = {bytes, room, 0};
         const size_t written = which == 0   ? cuddystove_add_fire(&list, a)
@@ -47,9 +46,7 @@ static void events(int64_t a, int64_t b, int64_t c, size_t room) {
                                : which == 2 ? cuddystove_add_lose(&list, a, b)
                                : which == 3 ? cuddystove_add_link(&list, a, b, c)
                                : which == 4 ? cuddystove_add_unlink(&list, a, b)
-                               : which == 5 ? cuddystove_add_signal(&list, a, b, c)
-                               : which == 6 ? cuddystove_add_leave(&list, a)
-                                            : cuddystove_add_return(&list, a);
+                                            : cuddystove_add_signal(&list, a, b, c);
         bytes_are(bytes, written);
     }
 }
@@ -97,7 +94,6 @@ int main(void) {
             }
         }
     }
-    for (i = 1; i <= 15; i++) network[cuddystove_at_presence(i)] = 1; // 16 is gone
     for (i = 0; i < 20000; i++) messages();
     return 0;
 }

@@ -56,7 +56,6 @@ fn cells_of(a: i64, b: i64, i: i64) -> String {
         cells::distance(a, b),
         cells::heard(a, b, i),
         cells::age(a, b),
-        cells::presence(a),
         cells::is_pending(a, b),
         cells::pending(a, b, i),
     ];
@@ -71,8 +70,6 @@ fn events_of(a: i64, b: i64, c: i64, room: usize) -> String {
         Event::link(a, b, c),
         Event::unlink(a, b),
         Event::signal(a, b, c),
-        Event::leave(a),
-        Event::come_back(a),
     ];
     all.map(|event| {
         let mut bytes = [0; LONGEST_EVENT];
@@ -134,7 +131,6 @@ fn ours() -> String {
         }
     }
     let (mut random, mut network) = (Random(1), vec![0; CELLS]);
-    (1..=15).filter_map(cells::presence).for_each(|cell| network[cell] = 1); // 16 is gone
     (0..20_000).for_each(|_| writeln!(text, "{}", messages_of(&mut random, &mut network)).expect("a line"));
     text
 }

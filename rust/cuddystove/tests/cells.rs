@@ -6,8 +6,8 @@ use cuddystove::{cells, fresh, ABSENT, CELLS};
 
 const OUTSIDE: [i64; 10] = [i64::MIN, -(1 << 32) + 1, -1, 0, 17, 18, 256, 257, (1 << 32) + 1, i64::MAX];
 
-/// 01, L1 and L5: block a begins at (a - 1) 546; in it the variables from 0, the sensors at 16, the row heard from b at
-/// 17 + 16 (b - 1), the row pending to b at 273 + 16 (b - 1), the age for b at 529 + (b - 1), presence at 545.
+/// 01 and L1: block a begins at (a - 1) 545; in it the variables from 0, the sensors at 16, the row heard from b at
+/// 17 + 16 (b - 1), the row pending to b at 273 + 16 (b - 1), the age for b at 529 + (b - 1).
 #[test]
 fn every_cell_once() {
     let mut seen = BTreeSet::new();
@@ -16,13 +16,12 @@ fn every_cell_once() {
         assert!(seen.insert(expected), "{expected} twice");
     };
     for a in 1..=16 {
-        let block = (a - 1) * 546;
+        let block = (a - 1) * 545;
         assert_eq!(cells::block(a), usize::try_from(block).ok());
         for v in 0..=15 {
             at(cells::variable(a, v), block + v);
         }
         at(cells::sensors(a), block + 16);
-        at(cells::presence(a), block + 545);
         for b in 1..=16 {
             let (heard, pending) = (block + 17 + 16 * (b - 1), block + 273 + 16 * (b - 1));
             at(cells::distance(a, b), heard);
@@ -44,7 +43,6 @@ fn none_outside() {
         assert_eq!(cells::block(wrong), None, "{wrong}");
         assert_eq!(cells::variable(wrong, 0), None, "{wrong}");
         assert_eq!(cells::sensors(wrong), None, "{wrong}");
-        assert_eq!(cells::presence(wrong), None, "{wrong}");
         for (a, b) in [(wrong, 1), (1, wrong), (wrong, wrong)] {
             assert_eq!(cells::distance(a, b), None, "{a} {b}");
             assert_eq!(cells::heard(a, b, 1), None, "{a} {b}");
@@ -62,21 +60,15 @@ fn none_outside() {
     }
 }
 
-/// The engine agrees on which cells are sensors, pending marks and presence; ages are absent.
+/// The engine agrees on which cells are sensors and pending marks; ages are absent.
 #[test]
-fn fresh_has_its_numbers_there() {
+fn fresh_has_zeros_there() {
     let mut network = vec![7; CELLS];
     assert_eq!(fresh(&mut network), Ok(()));
     let mut zeros: BTreeSet<usize> = (1..=16).filter_map(cells::sensors).collect();
     zeros.extend((1..=16).flat_map(|a| (1..=16).filter_map(move |b| cells::is_pending(a, b))));
-    let ones: BTreeSet<usize> = (1..=16).filter_map(cells::presence).collect();
-    assert_eq!((zeros.len(), ones.len()), (16 + 256, 16));
+    assert_eq!(zeros.len(), 16 + 256);
     for (cell, number) in network.iter().enumerate() {
-        let expected = match (zeros.contains(&cell), ones.contains(&cell)) {
-            (true, _) => 0,
-            (_, true) => 1,
-            _ => ABSENT,
-        };
-        assert_eq!(*number, expected, "cell {cell}");
+        assert_eq!(*number, if zeros.contains(&cell) { 0 } else { ABSENT }, "cell {cell}");
     }
 }

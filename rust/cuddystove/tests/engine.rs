@@ -101,13 +101,11 @@ fn read_text_refuses() {
 fn fresh_sets_every_cell() {
     let network = fresh_network();
     for (cell, number) in network.iter().enumerate() {
-        let expected = match cell % BLOCK {
-            16 => 0,
-            545 => 1,
-            within if (273..529).contains(&within) && (within - 273) % 16 == 0 => 0,
-            _ => ABSENT,
+        let zero = match cell % BLOCK {
+            16 => true,
+            within => (273..529).contains(&within) && (within - 273) % 16 == 0,
         };
-        assert_eq!(*number, expected, "cell {cell}");
+        assert_eq!(*number, if zero { 0 } else { ABSENT }, "cell {cell}");
     }
     for length in [0, 1, CELLS - 1, CELLS + 1] {
         let mut network = vec![7; length];
@@ -159,40 +157,6 @@ fn an_age_beside_slots() {
     let own = cells::age(3, 3).expect("an age");
     network[own] = 0;
     assert_eq!(refused(&mut network), (11, own));
-}
-
-/// A gone device's own cells are as when fresh, and the one that is not is named, cell 0 too; what is pending from it,
-/// and what others hold of it, is not restricted.
-#[test]
-fn a_gone_device_is_fresh() {
-    let refused = |network: &mut [i32]| number_and_place(run(&COUNTER, network, &[], &mut []));
-    let presence = |a| cells::presence(a).expect("a device");
-    for (a, b) in [(1, 2), (16, 1)] {
-        let own = [cells::variable(a, 0), cells::variable(a, 15), cells::sensors(a), cells::distance(a, b)];
-        for cell in own.into_iter().chain([cells::heard(a, b, 1), cells::age(a, b)]).map(|cell| cell.expect("a cell")) {
-            let mut network = fresh_network();
-            network[presence(a)] = 0;
-            assert_eq!(refused(&mut network), (0, 0));
-            network[cell] = 1;
-            assert_eq!(refused(&mut network), (11, cell));
-        }
-        let mut network = fresh_network();
-        network[presence(a)] = 0;
-        for cell in [cells::is_pending(a, b), cells::pending(a, b, 3), cells::is_pending(b, a), cells::distance(b, a)] {
-            network[cell.expect("a cell")] = 1;
-        }
-        assert_eq!(refused(&mut network), (0, 0));
-        for bad in [-1, 2, ABSENT] {
-            network[presence(a)] = bad;
-            assert_eq!(refused(&mut network), (11, presence(a)), "presence {bad}");
-        }
-    }
-    let mut network = fresh_network();
-    (network[presence(1)], network[0]) = (0, 7);
-    let refusal = run(&COUNTER, &mut network, &[], &mut []).expect_err("unsound");
-    let words = "refused 11 0 (unsound network): The network is not 8,736 cells long, or cell 0 of the network holds \
-                 what it may not (device 1, cell 0 of its block).";
-    assert_eq!(refusal.to_string(), words);
 }
 
 /// 01's replay example.
@@ -250,16 +214,16 @@ fn refusals_in_words() {
          bytes begin one."
     );
     let refusal = fresh(&mut [0; 3]).expect_err("too short");
-    assert!(refusal.sentence().to_string().starts_with("The network is not 8,736 cells long, or "));
+    assert_eq!(refusal.sentence().to_string(), "The network is not 8,720 cells long.");
     let mut network = fresh_network();
     network[2 * BLOCK + 273 + 16 * 4] = 2;
     let refusal = run(&COUNTER, &mut network, &[], &mut []).expect_err("unsound");
     assert_eq!(
         refusal.sentence().to_string(),
-        "Cell 1429 of the network holds what it may not (device 3, cell 337 of its block)."
+        "Cell 1427 of the network holds what it may not (device 3, cell 337 of its block)."
     );
     let error: &dyn std::error::Error = &refusal;
-    assert_eq!(error.to_string(), format!("refused 11 1429 (unsound network): {}", refusal.sentence()));
+    assert_eq!(error.to_string(), format!("refused 11 1427 (unsound network): {}", refusal.sentence()));
 }
 
 /// Each number has a name and a sentence of its own, be it returned or answered.
@@ -267,18 +231,18 @@ fn refusals_in_words() {
 fn every_number_has_its_words() {
     let returned = (1..=13).chain(18..=20).map(|number| Refusal::new(number, 7));
     let returned = returned.map(|refusal| (refusal.name, refusal.sentence().to_string()));
-    let answered = (14..=17).chain(21..=22).map(|number| {
+    let answered = (14..=17).map(|number| {
         let answer = Answer::from_pair([number, 0]).expect("an answer");
         assert_eq!(answer.number(), number as u32);
         (answer.name(), answer.sentence().to_string())
     });
     let done = (done(0).name(), done(0).sentence().to_string());
-    let other = Refusal::new(23, 7);
+    let other = Refusal::new(21, 7);
     let other = (other.name, other.sentence().to_string());
     let words: Vec<(&str, String)> = returned.chain(answered).chain([done, other]).collect();
     let names: BTreeSet<&str> = words.iter().map(|(name, _)| *name).collect();
     let sentences: BTreeSet<&str> = words.iter().map(|(_, sentence)| &sentence[..]).collect();
-    assert_eq!((words.len(), names.len(), sentences.len()), (24, 24, 24), "{words:?}");
+    assert_eq!((words.len(), names.len(), sentences.len()), (22, 22, 22), "{words:?}");
     for (name, sentence) in &words {
         assert!(!name.is_empty() && sentence.ends_with('.'), "{name}: {sentence}");
     }
@@ -290,14 +254,13 @@ fn every_number_has_its_words() {
 
 #[test]
 fn answers_in_words() {
-    let pairs = [0, 4, 14, 0, 15, 0, 16, 0, 17, 3, 21, 0, 22, 0, 18, 0, 14, 1, 21, 1, 23, 0, -1, 0, 0];
+    let pairs = [0, 4, 14, 0, 15, 0, 16, 0, 17, 3, 18, 0, 14, 1, -1, 0, 0];
     let read: Vec<Option<Answer>> = answers(&pairs).collect();
-    let [out, fault] = [Answer::OutOfRange, Answer::DividedByZero(3)];
-    let expected = [done(4), out, Answer::Itself, Answer::NothingPending, fault, Answer::Gone, Answer::Present];
-    assert_eq!(read[..7], expected.map(Some));
-    assert_eq!(read[7..], [None; 5]);
-    assert_eq!(expected.map(Answer::number), [0, 14, 15, 16, 17, 21, 22]);
-    assert_eq!(expected.map(Answer::value), [Some(4), None, None, None, None, None, None]);
+    let expected = [done(4), Answer::OutOfRange, Answer::Itself, Answer::NothingPending, Answer::DividedByZero(3)];
+    assert_eq!(read[..5], expected.map(Some));
+    assert_eq!(read[5..], [None, None, None]);
+    assert_eq!(expected.map(Answer::number), [0, 14, 15, 16, 17]);
+    assert_eq!(expected.map(Answer::value), [Some(4), None, None, None, None]);
     assert!(matches!(expected[0], Answer::Done { value: 4, .. }));
     assert_eq!(done(-4).sentence().to_string(), "Done; the value is -4.");
     assert_eq!(done(INF).sentence().to_string(), "Done; the value is inf.");

@@ -27,8 +27,6 @@ fn bytes_by_hand() {
     assert_eq!(bytes(Event::unlink(1, 2)), [0x13, 0, 6, 1, 2, 0x80, 0, 0, 0]);
     assert_eq!(bytes(Event::signal(1, 0, 1)), [0x14, 0, 3, 1, 0, 1]);
     assert_eq!(bytes(Event::signal(16, 15, 0)), [0x14, 0, 3, 16, 15, 0]);
-    assert_eq!(bytes(Event::leave(3)), [0x15, 0, 1, 3]);
-    assert_eq!(bytes(Event::come_back(16)), [0x16, 0, 1, 16]);
 }
 
 /// What has its bytes is written, in range or not.
@@ -42,8 +40,6 @@ fn every_byte_is_written() {
         assert_eq!(bytes(Event::link(n, other, n << 8)), [0x13, 0, 6, item, !item, 0, 0, item, 0]);
         assert_eq!(bytes(Event::unlink(n, other)), [0x13, 0, 6, item, !item, 0x80, 0, 0, 0]);
         assert_eq!(bytes(Event::signal(n, other, n)), [0x14, 0, 3, item, !item, item]);
-        assert_eq!(bytes(Event::leave(n)), [0x15, 0, 1, item]);
-        assert_eq!(bytes(Event::come_back(n)), [0x16, 0, 1, item]);
     }
 }
 
@@ -51,8 +47,6 @@ fn every_byte_is_written() {
 fn an_item_without_a_byte_is_refused() {
     for wrong in WRONG {
         assert_eq!(Event::fire(wrong), NO_BYTE, "{wrong}");
-        assert_eq!(Event::leave(wrong), NO_BYTE, "{wrong}");
-        assert_eq!(Event::come_back(wrong), NO_BYTE, "{wrong}");
         for (a, b) in [(wrong, 1), (1, wrong), (wrong, wrong)] {
             assert_eq!(Event::deliver(a, b), NO_BYTE, "{a} {b}");
             assert_eq!(Event::lose(a, b), NO_BYTE, "{a} {b}");
@@ -96,8 +90,6 @@ fn a_list_takes_what_fits() {
             appended(room, Event::link(1, 2, a), |list| list.link(1, 2, a));
             appended(room, Event::unlink(a, 2), |list| list.unlink(a, 2));
             appended(room, Event::signal(1, a, 0), |list| list.signal(1, a, 0));
-            appended(room, Event::leave(a), |list| list.leave(a));
-            appended(room, Event::come_back(a), |list| list.come_back(a));
         }
     }
 }
@@ -147,19 +139,9 @@ fn the_engine_reads_them() {
         (Event::signal(1, 15, 1), other),
         (Event::signal(1, 16, 1), out),
         (Event::signal(1, 15, 2), out),
-        (Event::leave(17), out),
-        (Event::come_back(0), out),
-        (Event::come_back(16), Answer::Present),
-        (Event::leave(16), other),
-        (Event::leave(16), Answer::Gone),
-        (Event::fire(16), Answer::Gone),
-        (Event::link(1, 16, 40), Answer::Gone),
-        (Event::deliver(16, 1), Answer::NothingPending),
-        (Event::come_back(16), other),
-        (Event::fire(16), done),
     ];
     let seven = [1, 0, 5, 0, 0, 0, 0, 7, 3, 0, 1, 0];
-    let (mut network, mut bytes, mut space) = (vec![0; CELLS], [0; 200], [0; 28 * ANSWER]);
+    let (mut network, mut bytes, mut space) = (vec![0; CELLS], [0; 200], [0; 18 * ANSWER]);
     assert_eq!(fresh(&mut network), Ok(()));
     let mut list = List::new(&mut bytes);
     for (event, _) in cases {

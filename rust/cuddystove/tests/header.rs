@@ -5,8 +5,8 @@ use std::collections::{BTreeMap, BTreeSet};
 use cuddystove::events::Event;
 use cuddystove::{
     Answer, Refusal, ABSENT, BLOCK, CELLS, DEFINITIONS, DEVICES, FARTHEST, FIRST_AGE, FIRST_HEARD, FIRST_PENDING,
-    FIRST_PRESENCE, FIRST_SENSORS, FLOOR, INF, LARGEST_COST, LONGEST_EVENT, LONGEST_MESSAGE, NODES, OLDEST, PARAMETERS,
-    ROW, SENSORS, VARIABLES, VERSION,
+    FIRST_SENSORS, FLOOR, INF, LARGEST_COST, LONGEST_EVENT, LONGEST_MESSAGE, NODES, OLDEST, PARAMETERS, ROW, SENSORS,
+    VARIABLES, VERSION,
 };
 
 const HEADER: &str = include_str!("../../../include/cuddystove.h");
@@ -67,7 +67,6 @@ fn numbers_agree() {
         ("FIRST_AGE", FIRST_AGE as u32),
         ("FIRST_HEARD", FIRST_HEARD as u32),
         ("FIRST_PENDING", FIRST_PENDING as u32),
-        ("FIRST_PRESENCE", FIRST_PRESENCE as u32),
         ("FIRST_SENSORS", FIRST_SENSORS as u32),
         ("LARGEST_COST", LARGEST_COST),
         ("LONGEST_EVENT", LONGEST_EVENT as u32),
@@ -92,10 +91,8 @@ fn tags_agree() {
     let events = [
         ("TAG_DELIVER", Event::deliver(1, 2)),
         ("TAG_FIRE", Event::fire(1)),
-        ("TAG_LEAVE", Event::leave(1)),
         ("TAG_LINK", Event::link(1, 2, 3)),
         ("TAG_LOSE", Event::lose(1, 2)),
-        ("TAG_RETURN", Event::come_back(1)),
         ("TAG_SIGNAL", Event::signal(1, 2, 1)),
     ];
     let ours: BTreeMap<&str, u32> =
@@ -110,14 +107,14 @@ fn tags_agree() {
 fn names_agree() {
     let mut names = quoted(function("static inline const char *cuddystove_name("));
     let unknown = names.pop().expect("a name for others");
-    assert_eq!(names.len(), 23);
+    assert_eq!(names.len(), 21);
     for (number, name) in (0..).zip(&names) {
         assert_eq!(Refusal::new(number, 0).name, *name);
     }
-    for number in [23, 24, 99, u32::MAX] {
+    for number in [21, 22, 99, u32::MAX] {
         assert_eq!(Refusal::new(number, 0).name, unknown);
     }
-    for number in [0, 14, 15, 16, 17, 21, 22] {
+    for number in [0, 14, 15, 16, 17] {
         let answer = Answer::from_pair([number, 0]).expect("an answer");
         assert_eq!(Some(&answer.name()), names.get(number as usize));
     }
@@ -126,10 +123,10 @@ fn names_agree() {
 /// The header's sentences by number, and last the one for other numbers.
 fn sentences() -> Vec<&'static str> {
     let numbers = enumerators();
-    let mut sentences = vec![""; 24];
+    let mut sentences = vec![""; 22];
     for line in function("static inline const char *cuddystove_sentence(").lines() {
         let Some((case, rest)) = line.trim().split_once(": return ") else { continue };
-        let number = case.strip_prefix("case CUDDYSTOVE_").map_or(23, |name| numbers[name]);
+        let number = case.strip_prefix("case CUDDYSTOVE_").map_or(21, |name| numbers[name]);
         sentences[number as usize] = quoted(rest)[0];
     }
     sentences
@@ -153,20 +150,19 @@ fn with_place(general: &str, place: usize) -> String {
 #[test]
 fn sentences_agree() {
     let theirs = sentences();
-    assert_eq!(theirs.iter().collect::<BTreeSet<_>>().len(), 24, "{theirs:?}");
+    assert_eq!(theirs.iter().collect::<BTreeSet<_>>().len(), 22, "{theirs:?}");
     assert!(theirs.iter().all(|sentence| sentence.ends_with('.')));
     for (number, general) in (0..).zip(&theirs).filter(|(number, _)| *number != 11) {
-        for place in [0, 1, 38, 8_735] {
+        for place in [0, 1, 38, 8_719] {
             assert_eq!(Refusal::new(number, place).sentence().to_string(), with_place(general, place));
         }
     }
     // 11 is two cases in one sentence there.
-    let cases = [0, 1_429].map(|place| Refusal::new(11, place).sentence().to_string());
-    let cell_0 = "or cell 0 of the network holds what it may not (device 1, cell 0 of its block).";
-    assert_eq!(cases[0], format!("The network is not 8,736 cells long, {cell_0}"));
-    assert_eq!(cases[1], "Cell 1429 of the network holds what it may not (device 3, cell 337 of its block).");
-    assert_eq!(theirs[11], "The network is not 8,736 cells long (place 0), or a cell holds what it may not.");
-    for number in [14, 15, 16, 21, 22] {
+    let cases = [0, 1_427].map(|place| Refusal::new(11, place).sentence().to_string());
+    assert_eq!(cases[0], "The network is not 8,720 cells long.");
+    assert_eq!(cases[1], "Cell 1427 of the network holds what it may not (device 3, cell 337 of its block).");
+    assert_eq!(theirs[11], "The network is not 8,720 cells long (place 0), or a cell holds what it may not.");
+    for number in [14, 15, 16] {
         let answer = Answer::from_pair([number, 0]).expect("an answer");
         assert_eq!(answer.sentence().to_string(), theirs[number as usize]);
     }
@@ -184,5 +180,5 @@ fn comments_agree() {
         let number = whole(item.split(" = ").last().expect("a number").trim_end_matches([' ', ',']));
         assert!(number == 0 || theirs[number as usize] == comment, "{line}");
     }
-    assert_eq!(refusals.lines().filter(|line| line.starts_with("    CUDDYSTOVE_")).count(), 23);
+    assert_eq!(refusals.lines().filter(|line| line.starts_with("    CUDDYSTOVE_")).count(), 21);
 }

@@ -254,63 +254,6 @@ fn a_message_lags() {
     }
 }
 
-/// A put for a hearer that is gone is refused, and a sender may be gone; a take asks for no presence.
-#[test]
-fn of_gone_devices() {
-    let message = [1, 2, 0, 2, 0, 0, 0, 9];
-    let presence = [1, 2].map(|a| cells::presence(a).expect("a device"));
-    for (sender, hearer) in [(0, 0), (0, 1), (1, 0), (1, 2), (1, -1), (1, ABSENT)] {
-        let mut network = fresh_network();
-        (network[presence[0]], network[presence[1]]) = (sender, hearer);
-        let before = network.clone();
-        let put = put(&mut network, &message);
-        assert_eq!(put.is_some(), hearer == 1, "{sender} {hearer}");
-        assert!(put.is_some() || network == before, "{sender} {hearer}");
-        let mut pending = pending(1, 2, &[(1, 9)]);
-        (pending[presence[0]], pending[presence[1]]) = (sender, hearer);
-        assert_eq!(taken(&mut pending, 1, 2).as_deref(), Some(&message[..]), "{sender} {hearer}");
-        assert_eq!(pending, before);
-    }
-}
-
-/// A departure with messages under way: what comes for the one that left is thrown away, what it sent is still heard.
-/// Then it returns with nothing, and a link is given anew.
-#[test]
-fn a_device_leaves_and_returns() {
-    let (mut one, mut two) = (fresh_network(), fresh_network());
-    let events = |bytes: Result<Event, cuddystove::events::NotWritten>| bytes.expect("bytes");
-    let fire = [1, 2].map(|a| events(Event::fire(a)));
-    for event in [events(Event::link(1, 2, 40)), fire[0]] {
-        assert_eq!(does(&mut one, event.as_bytes()), [0, 0]);
-    }
-    for event in [events(Event::link(2, 1, 40)), fire[1]] {
-        assert_eq!(does(&mut two, event.as_bytes()), [0, 0]);
-    }
-    let (to_two, to_one) = (taken(&mut one, 1, 2).expect("fired"), taken(&mut two, 2, 1).expect("fired"));
-    for network in [&mut one, &mut two] {
-        assert_eq!(does(network, events(Event::leave(2)).as_bytes()), [0, 0]);
-        assert_eq!(does(network, fire[1].as_bytes()), [21, 0]);
-        assert_eq!(does(network, events(Event::link(1, 2, 40)).as_bytes()), [21, 0]);
-    }
-    assert_eq!(put(&mut two, &to_two), None);
-    assert_eq!(put(&mut one, &to_one), Some((2, 1)));
-    assert_eq!(does(&mut one, events(Event::deliver(2, 1)).as_bytes()), [0, 0]);
-    assert_eq!(does(&mut one, fire[0].as_bytes()), [0, 7]);
-    assert_eq!(taken(&mut one, 1, 2), None); // its link to 2 went with 2
-    let mut gone = fresh_network();
-    gone[cells::presence(2).expect("a device")] = 0;
-    assert_eq!(two, gone);
-    for network in [&mut one, &mut two] {
-        assert_eq!(does(network, events(Event::come_back(2)).as_bytes()), [0, 0]);
-        assert_eq!(does(network, events(Event::come_back(2)).as_bytes()), [22, 0]);
-    }
-    assert_eq!(two, fresh_network());
-    for event in [events(Event::link(1, 2, 30)), fire[0]] {
-        does(&mut one, event.as_bytes());
-    }
-    assert_eq!(taken(&mut one, 1, 2).as_deref(), Some(&[1, 2, 0, 2, 0, 0, 0, 7][..]));
-}
-
 /// Tablets 1 and 2, each with its own network, and the office with one network for both.
 #[test]
 fn from_network_to_network() {

@@ -1,9 +1,8 @@
 //! What a comparison met, and what it should have met and did not.
 
 use crate::Outcome;
-use cases::answers::Gone;
 use cases::table::split;
-use cases::{answers, systematic, Call, Case};
+use cases::{answers, systematic, Case};
 use std::collections::{BTreeMap, BTreeSet};
 use std::fmt::Display;
 
@@ -47,15 +46,12 @@ impl Report {
             let number = outcome.returned.0;
             *self.returned.entry(number).or_default() += 1;
             *self.labels.entry(case.label).or_default().entry(number).or_default() += 1;
-            if number != 0 || matches!(case.call, Call::Check | Call::Fresh) {
+            if number != 0 {
                 continue;
             }
-            let mut gone = Gone::of(&case.network);
             for (event, pair) in split(list).into_iter().zip(outcome.answers.chunks_exact(2)) {
                 self.events += 1;
-                let label = answers::label(&case.program, event, [pair[0], pair[1]], &gone);
-                *self.answered.entry(label).or_default() += 1;
-                gone.after(event, pair[0]);
+                *self.answered.entry(answers::label(&case.program, event, [pair[0], pair[1]])).or_default() += 1;
             }
         }
     }
@@ -77,18 +73,13 @@ impl Report {
     pub fn gaps(&self) -> Vec<String> {
         let labels = unlike("label", self.labels.keys(), &cases::labels());
         let returned = unlike("number", self.returned.keys(), &(0..=13).collect());
-        [labels, returned, self.answer_gaps(), self.strays()].concat()
+        let answered = unlike("answer", self.answered.keys(), &answers::LABELS.into_iter().collect());
+        [labels, returned, answered, self.strays()].concat()
     }
 
-    /// What the systematic cases should have met: each label, each label of an answer.
+    /// What the systematic cases should have met: each label.
     pub fn systematic_gaps(&self) -> Vec<String> {
-        let labels = unlike("label", self.labels.keys(), &systematic::LABELS.into_iter().collect());
-        [labels, self.answer_gaps()].concat()
-    }
-
-    /// Labels of answers that were not met, or are none.
-    fn answer_gaps(&self) -> Vec<String> {
-        unlike("answer", self.answered.keys(), &answers::LABELS.into_iter().collect())
+        unlike("label", self.labels.keys(), &systematic::LABELS.into_iter().collect())
     }
 }
 
@@ -135,13 +126,13 @@ mod tests {
                 "label '7-9 several faults of the trees' returned 10"
             ]
         );
-        assert_eq!(Report::default().systematic_gaps().len(), systematic::LABELS.len() + answers::LABELS.len());
+        assert_eq!(Report::default().systematic_gaps().len(), systematic::LABELS.len());
     }
 
     /// No label stands twice in its list.
     #[test]
     fn answers_have_their_own_labels() {
         assert_eq!(answers::LABELS.into_iter().collect::<BTreeSet<_>>().len(), answers::LABELS.len());
-        assert_eq!(cases::labels().len(), 192);
+        assert_eq!(cases::labels().len(), 175);
     }
 }

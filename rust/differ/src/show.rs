@@ -16,8 +16,7 @@ fn place(cell: usize) -> String {
         16 => "sensors".into(),
         17..=272 => format!("heard from {}, slot {}", (within - 17) / 16 + 1, (within - 17) % 16),
         273..=528 => format!("pending to {}, slot {}", (within - 273) / 16 + 1, (within - 273) % 16),
-        529..=544 => format!("age of what was heard from {}", within - 529 + 1),
-        _ => "presence".into(),
+        _ => format!("age of what was heard from {}", within - 529 + 1),
     };
     format!("cell {cell} (device {a}, {what})")
 }

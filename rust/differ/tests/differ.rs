@@ -7,7 +7,7 @@ use mutants::Mutant;
 use std::collections::BTreeSet;
 use std::process::Command;
 
-const MUTANTS: usize = 483;
+const MUTANTS: usize = 360;
 
 fn alike(report: &Report) {
     if let Some(difference) = &report.difference {
@@ -116,23 +116,6 @@ fn has_its_lag(case: &Case) -> bool {
     }
 }
 
-/// Whether a case that is labelled so names a cell of a gone device, or a presence cell, or one that stands before it.
-fn names_its_cell(case: &Case) -> bool {
-    let Some((11, Some(cell))) = case.expected else {
-        return case.label == "11 several cells";
-    };
-    let device = cell / 546;
-    let presence = cell % 546 == 545;
-    match case.label {
-        "11 variable 0 of device 1, gone" => cell == 0 && case.network[545] == 0,
-        "11 presence and a lower cell of its device" => {
-            !presence && !(0..=1).contains(&case.network[546 * device + 545])
-        }
-        label if label.contains("gone device") => !presence && case.network[546 * device + 545] == 0,
-        label => presence == label.starts_with("11 presence"),
-    }
-}
-
 /// Labels hold what they say where the refusal alone doesn't show it.
 #[test]
 fn labels_hold_what_they_say() {
@@ -150,7 +133,6 @@ fn labels_hold_what_they_say() {
                 assert!(fields[1..fields.len() - 1].iter().any(|field| field[0] == 3), "{:02x?}", case.program);
             }
             label if label.contains("nbr-lag") => assert!(has_its_lag(&case), "{case:?}"),
-            label if label.starts_with("11 ") => assert!(names_its_cell(&case), "{case:?}"),
             _ => {}
         }
     }
@@ -308,7 +290,7 @@ fn differences_can_be_seen_again() {
         "program: 01",
         "list: ",
         "answer space: ",
-        "network of 8736 cells",
+        "network of 8720 cells",
         "second engine and mutant",
     ] {
         assert!(difference.contains(word), "no '{word}' in: {difference}");
@@ -324,7 +306,7 @@ fn differences_can_be_seen_again() {
 #[test]
 fn every_cell_by_its_rule() {
     for cell in 0..cases::network::CELLS {
-        let (device, within) = (cell / 546, cell % 546);
+        let (device, within) = (cell / 545, cell % 545);
         let own = |start: usize| (within - start) / 16 == device;
         for (at, number) in [i32::MIN, -1, 0, 1, 2, 3, 65_535, 65_536, 1_000_000, 1_000_001].into_iter().enumerate() {
             let absent = number == i32::MIN;
@@ -335,10 +317,9 @@ fn every_cell_by_its_rule() {
                 17..=272 => absent || (0..=1_000_000).contains(&number),
                 273..=528 if (within - 273) % 16 != 0 => absent,
                 273..=528 => number == 0 || number == 1 && !own(273),
-                529..=544 => absent || (0..=2).contains(&number) && within - 529 != device,
-                _ => number == 0 || number == 1,
+                _ => absent || (0..=2).contains(&number) && within - 529 != device,
             };
-            // Of ages and presence every number, of other cells two, in each device others.
+            // Of ages every number, of other cells two, in each device others.
             if within < 529 && at % 5 != (device + within) % 5 {
                 continue;
             }
@@ -346,34 +327,8 @@ fn every_cell_by_its_rule() {
             network[cell] = number;
             // A slot heard from another asks for its age.
             let heard = (17..=272).contains(&within) && !own(17) && (within - 17) % 16 != 0;
-            let offends = if heard { device * 546 + 529 + (within - 17) / 16 } else { cell };
+            let offends = if heard { device * 545 + 529 + (within - 17) / 16 } else { cell };
             let expected = if sound { (0, 0) } else { (11, offends) };
-            assert_eq!(second::run(&ONE, &mut network, &[], &mut []), expected, "cell {cell} = {number}");
-        }
-    }
-}
-
-/// The same where all are gone: of a device's own cells only what is fresh is sound, and the cell itself offends.
-#[test]
-fn every_cell_of_gone_devices_by_its_rule() {
-    let fresh = cases::network::fresh();
-    let mut gone = fresh.clone();
-    (1..=16).for_each(|a| gone[cases::network::presence(a)] = 0);
-    for cell in 0..cases::network::CELLS {
-        let (device, within) = (cell / 546, cell % 546);
-        for (at, number) in [i32::MIN, -1, 0, 1, 2, 3, 7].into_iter().enumerate() {
-            if within != 545 && at % 3 != (device + within) % 3 {
-                continue;
-            }
-            let itself = within < 529 && within >= 273 && (within - 273) / 16 == device;
-            let sound = match within {
-                545 => number == 0 || number == 1,
-                273..=528 if (within - 273) % 16 == 0 => number == 0 || number == 1 && !itself,
-                _ => number == fresh[cell],
-            };
-            let mut network = gone.clone();
-            network[cell] = number;
-            let expected = if sound { (0, 0) } else { (11, cell) };
             assert_eq!(second::run(&ONE, &mut network, &[], &mut []), expected, "cell {cell} = {number}");
         }
     }

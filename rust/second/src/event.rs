@@ -15,8 +15,6 @@ pub enum Event {
     Lose { a: u8, b: u8 },
     Link { a: u8, b: u8, distance: i32 },
     Signal { a: u8, sensor: u8, switch: u8 },
-    Leave { a: u8 },
-    Return { a: u8 },
 }
 
 /// An event that was refused: the two numbers of its answer.
@@ -57,8 +55,6 @@ fn first(list: &[u8]) -> Option<(Event, &[u8])> {
         (0x12, &[a, b]) => Event::Lose { a, b },
         (0x13, &[a, b, d3, d2, d1, d0]) => Event::Link { a, b, distance: i32::from_be_bytes([d3, d2, d1, d0]) },
         (0x14, &[a, sensor, switch]) => Event::Signal { a, sensor, switch },
-        (0x15, &[a]) => Event::Leave { a },
-        (0x16, &[a]) => Event::Return { a },
         _ => return None,
     };
     Some((event, rest))
@@ -73,22 +69,10 @@ fn is_distance(distance: i32) -> bool {
 }
 
 impl Event {
-    /// Whether a device is gone that the event asks for.
-    fn asks_for_gone(self, network: &Network) -> bool {
-        let gone = |a: u8| network.devices[&a].gone;
-        match self {
-            Event::Fire { a } | Event::Signal { a, .. } | Event::Leave { a } => gone(a),
-            // A message outlasts its sender.
-            Event::Deliver { b, .. } | Event::Lose { b, .. } => gone(b),
-            Event::Link { a, b, .. } => gone(a) || gone(b),
-            Event::Return { .. } => false,
-        }
-    }
-
-    /// Refusals 14 to 16, 21 and 22.
+    /// Refusals 14 to 16.
     fn refusal(self, network: &Network) -> Option<i32> {
         let in_range = match self {
-            Event::Fire { a } | Event::Leave { a } | Event::Return { a } => is_device(a),
+            Event::Fire { a } => is_device(a),
             Event::Deliver { a, b } | Event::Lose { a, b } => is_device(a) && is_device(b),
             Event::Link { a, b, distance } => is_device(a) && is_device(b) && is_distance(distance),
             Event::Signal { a, sensor, switch } => is_device(a) && sensor <= 15 && switch <= 1,
@@ -98,8 +82,6 @@ impl Event {
         }
         match self {
             Event::Deliver { a, b } | Event::Lose { a, b } | Event::Link { a, b, .. } if a == b => Some(15),
-            _ if self.asks_for_gone(network) => Some(21),
-            Event::Return { a } if !network.devices[&a].gone => Some(22),
             Event::Deliver { a, b } | Event::Lose { a, b } if !network.devices[&a].pending.contains_key(&b) => Some(16),
             _ => None,
         }
@@ -139,8 +121,6 @@ impl Event {
             Event::Signal { a, sensor, .. } => {
                 network.device(a).lit.remove(&sensor);
             }
-            Event::Leave { a } => network.leave(a),
-            Event::Return { a } => network.device(a).gone = false,
         }
         Ok(0)
     }

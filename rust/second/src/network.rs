@@ -3,12 +3,11 @@
 use super::number::ABSENT;
 use super::{refused, Refusal};
 use std::collections::{BTreeMap, BTreeSet};
-use std::mem;
 use std::sync::LazyLock;
 
 /// Devices 1 to 16.
 pub const DEVICES: usize = 16;
-const BLOCK: usize = 546;
+const BLOCK: usize = 545;
 pub const CELLS: usize = DEVICES * BLOCK;
 pub const FARTHEST: i32 = 1_000_000;
 /// So many rounds read a message.
@@ -33,8 +32,6 @@ pub struct Device {
     pub readings: BTreeMap<u8, i32>,
     /// By hearer, the message pending to it.
     pub pending: BTreeMap<u8, Message>,
-    /// Whether it has left; it then holds nothing else but what is pending.
-    pub gone: bool,
 }
 
 impl Device {
@@ -49,14 +46,6 @@ impl Device {
         self.readings.values_mut().for_each(|left| *left -= 1);
         self.readings.retain(|_, left| *left > 0);
         self.heard.retain(|from, _| self.readings.contains_key(from));
-    }
-
-    /// Forgets a device that leaves: the link to it, what was heard from it, and the message on its way there.
-    fn forget(&mut self, a: u8) {
-        self.distances.remove(&a);
-        self.heard.remove(&a);
-        self.readings.remove(&a);
-        self.pending.remove(&a);
     }
 }
 
@@ -75,7 +64,6 @@ enum Cell {
     Pending { to: u8 },
     Sent { to: u8, slot: u8 },
     Age { from: u8 },
-    Presence,
 }
 
 /// The device that owns a cell, and what the cell stands for.
@@ -94,8 +82,7 @@ fn meaning(cell: usize) -> (u8, Cell) {
             (to, 0) => Cell::Pending { to },
             (to, slot) => Cell::Sent { to, slot },
         },
-        529..=544 => Cell::Age { from: (within - 529 + 1) as u8 },
-        _ => Cell::Presence,
+        _ => Cell::Age { from: (within - 529 + 1) as u8 },
     };
     (device, stands_for)
 }
@@ -114,7 +101,6 @@ fn address(device: u8, cell: Cell) -> usize {
         Cell::Pending { to } => row(273, to, 0),
         Cell::Sent { to, slot } => row(273, to, slot),
         Cell::Age { from } => 529 + usize::from(from) - 1,
-        Cell::Presence => 545,
     };
     (usize::from(device) - 1) * BLOCK + within
 }
@@ -123,23 +109,13 @@ fn address(device: u8, cell: Cell) -> usize {
 fn when_fresh(cell: Cell) -> i32 {
     match cell {
         Cell::Sensors | Cell::Pending { .. } => 0,
-        Cell::Presence => 1,
         _ => ABSENT,
-    }
-}
-
-/// Whether a device takes with it what the cell stands for: all but its messages to others, which are on their way.
-fn goes_along(cell: Cell) -> bool {
-    match cell {
-        Cell::Variable(_) | Cell::Sensors | Cell::Distance { .. } | Cell::Heard { .. } | Cell::Age { .. } => true,
-        Cell::Pending { .. } | Cell::Sent { .. } | Cell::Presence => false,
     }
 }
 
 /// Whether a cell of this device may hold this number, among the others of its network.
 fn sound(cells: &[i32], device: u8, cell: Cell, number: i32) -> bool {
     match cell {
-        _ if number != when_fresh(cell) && goes_along(cell) && cells[address(device, Cell::Presence)] == 0 => false,
         Cell::Variable(_) => true,
         Cell::Sensors => (0..=65_535).contains(&number),
         Cell::Distance { to: other }
@@ -159,7 +135,6 @@ fn sound(cells: &[i32], device: u8, cell: Cell, number: i32) -> bool {
             (1..=15).all(|slot| cells[address(device, Cell::Heard { from, slot })] == ABSENT)
         }
         Cell::Age { .. } => (0..READINGS).contains(&number),
-        Cell::Presence => number == 0 || number == 1,
     }
 }
 
@@ -202,7 +177,6 @@ impl Network {
                 Cell::Age { from } => {
                     device.readings.insert(from, READINGS - number);
                 }
-                Cell::Presence => device.gone = true,
             }
         }
         Ok(network)
@@ -236,15 +210,7 @@ impl Network {
                     put(Cell::Sent { to: *b, slot: *slot }, *number);
                 }
             }
-            put(Cell::Presence, i32::from(!device.gone));
         }
-    }
-
-    /// A device leaves: what it sent stays on its way, all others forget it.
-    pub fn leave(&mut self, a: u8) {
-        let leaving = mem::take(self.device(a));
-        *self.device(a) = Device { pending: leaving.pending, gone: true, ..Device::default() };
-        self.devices.values_mut().for_each(|other| other.forget(a));
     }
 
     pub fn device(&mut self, a: u8) -> &mut Device {
@@ -269,10 +235,7 @@ mod tests {
         let mut cells = vec![0; CELLS];
         for (place, number) in cells.iter_mut().enumerate() {
             let (device, cell) = meaning(place);
-            let gone = device % 5 == 0;
             *number = match cell {
-                Cell::Presence => i32::from(!gone),
-                cell if gone && goes_along(cell) => when_fresh(cell),
                 Cell::Variable(v) => i32::from(v) - 7,
                 Cell::Sensors => 0x8001 + i32::from(device),
                 Cell::Distance { to } if to != device => 62_500 * i32::from(to),

@@ -65,28 +65,6 @@ fn what_fades_in_another_order() {
 }
 
 #[test]
-fn departures_and_returns_in_another_order() {
-    // What stands between two comings and goings stays there, and is woven otherwise; 1's message outlasts it.
-    let start = [link(1, 2, 5), link(8, 9, 3), fire(1), fire(8), link(1, 9, 4), fire(1)];
-    let gone = [deliver(1, 2), deliver(8, 9), fire(1), fire(2), fire(9), link(2, 1, 5), link(9, 8, 2), deliver(2, 1)];
-    let again = [fire(1), deliver(1, 9), fire(8), fire(9), fire(2), deliver(8, 9)];
-    let joined = |pieces: [Vec<Vec<u8>>; 3]| {
-        let [one, two, three] = pieces;
-        [one, vec![leave(1)], two, vec![back(1), back(1), leave(99)], three].concat()
-    };
-    let forward = joined([start.to_vec(), gone.to_vec(), again.to_vec()]);
-    let order = |events: &[Vec<u8>], places: &[usize]| places.iter().map(|at| events[*at].clone()).collect::<Vec<_>>();
-    let other = joined([
-        order(&start, &[1, 3, 0, 2, 4, 5]),
-        order(&gone, &[5, 1, 4, 6, 2, 0, 3, 7]),
-        order(&again, &[0, 4, 2, 1, 3, 5]),
-    ]);
-    for program in [distance_to(), distance_by(13)] {
-        alike(&program, &forward, &other);
-    }
-}
-
-#[test]
 fn copies_and_refused_events() {
     let first = [fire(1), fire(0), link(1, 1, 5), fire(1), fire(0), deliver(4, 5), fire(1), signal(2, 16, 0)];
     let second = [fire(0), deliver(4, 5), fire(1), signal(2, 16, 0), fire(0), fire(1), link(1, 1, 5), fire(1)];

@@ -25,17 +25,17 @@ loop-holds : tie.Need-loop-init invariant-loop decreases-loop
 unfolding any_present
 loop-holds c = (omega arith, refl)
 
-add-occupied : tie.Need-overflow-add-occupied invariant-loop decreases-loop
-add-occupied c = search rules
+add-presence : tie.Need-overflow-add-presence invariant-loop decreases-loop
+add-presence c = search rules
 
-mul-occupied : tie.Need-overflow-mul-occupied invariant-loop decreases-loop
-mul-occupied c = search rules
+mul-presence : tie.Need-overflow-mul-presence invariant-loop decreases-loop
+mul-presence c = search rules
 
-shared-slice-copy-out-occupied : tie.Need-shared-slice-copy-out-occupied invariant-loop decreases-loop
-shared-slice-copy-out-occupied c = search rules
+shared-slice-copy-out-presence : tie.Need-shared-slice-copy-out-presence invariant-loop decreases-loop
+shared-slice-copy-out-presence c = search rules
 
-occupied-requires : tie.Need-occupied-requires invariant-loop decreases-loop
-occupied-requires c κs = search rules
+presence-requires : tie.Need-presence-requires invariant-loop decreases-loop
+presence-requires c κs = search rules
 
 add-i : tie.Need-overflow-add-i invariant-loop decreases-loop
 add-i c = search rules
@@ -47,8 +47,8 @@ loop-again : tie.Need-loop-preserved invariant-loop decreases-loop
 loop-again c =
     let l = c.before.before.before.loop in
     let s = c.before.before.before.before.args in
-    let x = to_z-of_z {w = w32} {z = get_or s.net.now (s.at + l.i) (pos 0)} (sfits_of c.before.occupied-arg.given) in
-    (omega arith, any-more s.net.now s.at l.i l.any c.occupied.result (omega arith) l.invariant.1 (simp x at c.occupied.ensures))
+    let x = to_z-of_z {w = w32} {z = get_or s.net.now (s.at + l.i) (pos 0)} (sfits_of c.before.presence-arg.given) in
+    (omega arith, any-more s.net.now s.at l.i l.any c.presence.result (omega arith) l.invariant.1 (simp x at c.presence.ensures))
 
 not-twice : (b : Bool) → b ≡ not (not b)
 not-twice true = refl
@@ -60,4 +60,4 @@ returns c =
     ap not (rw e at c.before.loop.invariant.1) ∙ sym (not-twice _)
 
 pub any-present-spec : {M : Type 1} → statement M
-any-present-spec = tie.close (tie.spec invariant-loop decreases-loop loop-holds add-occupied mul-occupied shared-slice-copy-out-occupied occupied-requires add-i loop-less loop-again returns)
+any-present-spec = tie.close (tie.spec invariant-loop decreases-loop loop-holds add-presence mul-presence shared-slice-copy-out-presence presence-requires add-i loop-less loop-again returns)

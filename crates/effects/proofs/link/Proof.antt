@@ -1,5 +1,5 @@
 -- `effects::link` meets its contract. Assumes nothing.
-use mathlib.Core.Path.{◌≡◌, refl, sym, ◌∙◌}
+use mathlib.Core.Path.{◌≡◌, refl}
 use mathlib.Core.Bool.{true, false, ◌&&◌}
 use native.Mathlib.Omega.{arith}
 use borrow.Author.Rules.{rules}
@@ -8,11 +8,11 @@ use mir.ValLaws.{to_z-of_z}
 use mir.Syntax.{w32}
 use Rattle.network.specs.Network.{is_distance}
 use Rattle.event.specs.Event.{link}
-use Rattle.event.specs.Step.{is_device, out_of_range, heard_from, gone}
+use Rattle.event.specs.Step.{is_device, out_of_range, heard_from}
 use Rattle.network.proofs.Stores.{store-one}
 use Rattle.event.proofs.Devices.{Pair, pair_of}
-use Rattle.decide.proofs.Picks.{said-no, said-yes, by_first, by-rest, or-fails}
-use Rattle.effects.proofs.Refusals.{turned, carried-out, is-14, is-15, is-21, is-0}
+use Rattle.decide.proofs.Picks.{said-no, said-yes}
+use Rattle.effects.proofs.Refusals.{turned, carried-out, is-14, is-15, is-0}
 use Rattle.effects.proofs.link.Statement.{statement}
 use Rattle.effects.proofs.link.Tie as tie
 
@@ -27,16 +27,6 @@ distance-said c = rw (to_z-of_z w32 c.before.before.before.args.distance c.befor
 
 in-range : (c : tie.Else2) → out_of_range (link c.before.before.before.before.args.a c.before.before.before.before.args.b c.before.before.before.before.args.distance) ≡ false
 in-range c = rw (two c.before.before, said-yes (distance-said c.before) c.if2.false)
-
--- the third test, and the fourth, from those after them
-abbrev third : tie.Else4 → tie.Else3
-third c = c.before.before.before
-
-abbrev fourth : tie.Else5 → tie.Else4
-fourth c = c.before.before.before
-
-a-there : (c : tie.Else4) → gone (third c).before.before.before.before.before.args.net.now (third c).before.before.before.before.before.args.a ≡ false
-a-there c = sym c.before.gone.ensures ∙ c.if4.false
 
 are-devices-requires : tie.Need-are-devices-requires
 are-devices-requires c κs = search rules
@@ -63,8 +53,14 @@ answered-requires-3 c κs = search rules
 returns-3 : tie.Need-returns-3
 returns-3 c = turned _ _ _ 15 (is-15 _ _ (in-range c.before.before) (eq-eqb _ _ c.before.if3.true)) (λ z. omega arith) c.answered3.ensures
 
-gone-requires : tie.Need-gone-requires
-gone-requires c κs = let p = pair c.before.before.before.before in omega arith
+heard-from-requires : tie.Need-heard-from-requires
+heard-from-requires c κs = let p = pair c.before.before.before in omega arith
+
+mul-distance : tie.Need-overflow-mul-distance
+mul-distance c = search rules
+
+slice-set-from-distance : tie.Need-slice-set-from-distance
+slice-set-from-distance c = let p = pair c.before.before.before.before in omega (arith, c.heard-from.ensures)
 
 answered-requires-4 : tie.Need-answered-requires-4
 answered-requires-4 c κs = search rules
@@ -74,50 +70,11 @@ same_length c = search rules
 
 returns-4 : tie.Need-returns-4
 returns-4 c =
-    let t = c.before.before.before.before in
-    turned _ _ _ 21 (is-21 _ _ (in-range t.before) (ne_eqb _ _ t.if3.false) (by_first _ (sym c.before.before.gone.ensures ∙ c.before.if4.true))) (λ z. omega arith)
-    c.answered4.ensures
-
-gone-requires-2 : tie.Need-gone-requires-2
-gone-requires-2 c κs = let p = pair (third c.before).before.before.before in omega arith
-
-answered-requires-5 : tie.Need-answered-requires-5
-answered-requires-5 c κs = search rules
-
-same-length-2 : tie.Need-same-length-2
-same-length-2 c = search rules
-
-returns-5 : tie.Need-returns-5
-returns-5 c =
-    let t = third c.before.before.before.before in
-    let s = t.before.before.before.before.before.args in
-    turned _ _ _ 21 (is-21 _ _ (in-range t.before) (ne_eqb _ _ t.if3.left) (by-rest (gone s.net.now s.a) (sym c.before.before.gone2.ensures ∙ c.before.if5.true)))
-    (λ z. omega arith) c.answered5.ensures
-
-heard-from-requires : tie.Need-heard-from-requires
-heard-from-requires c κs = let p = pair (third (fourth c)).before.before.before in omega arith
-
-mul-distance : tie.Need-overflow-mul-distance
-mul-distance c = search rules
-
-slice-set-from-distance : tie.Need-slice-set-from-distance
-slice-set-from-distance c = let p = pair (third (fourth c.before)).before.before.before in omega (arith, c.heard-from.ensures)
-
-answered-requires-6 : tie.Need-answered-requires-6
-answered-requires-6 c κs = search rules
-
-same-length-3 : tie.Need-same-length-3
-same-length-3 c = search rules
-
-returns-6 : tie.Need-returns-6
-returns-6 c =
-    let u = c.before.before in
-    let t = third (fourth u) in
-    let s = t.before.before.before.before.before in
-    carried-out _ _ _ _ (is-0 _ _ (in-range t.before) (ne_eqb _ _ t.if3.left) (or-fails (a-there (fourth u)) (sym u.before.gone2.ensures ∙ u.if5.false)) refl refl)
-    (λ main. rw (c.before.heard-from.ensures, to_z-of_z w32 s.args.distance s.fits.distance)
+    let s = c.before.before.before.before.before.before.before in
+    carried-out _ _ _ _ (is-0 _ _ (in-range c.before.before.before) (ne_eqb _ _ c.before.before.if3.false) refl)
+    (λ main. rw (c.before.heard-from.ensures, to_z-of_z w32 s.args.distance s.ranges.distance)
     (store-one s.args.net.now (heard_from s.args.a s.args.b) s.args.distance))
-    (λ main. c.answered6.ensures)
+    (λ main. c.answered4.ensures)
 
 pub link-spec : {M : Type 1} → statement M
 link-spec =
@@ -131,17 +88,9 @@ link-spec =
     returns-2
     answered-requires-3
     returns-3
-    gone-requires
-    answered-requires-4
-    same_length
-    returns-4
-    gone-requires-2
-    answered-requires-5
-    same-length-2
-    returns-5
     heard-from-requires
     mul-distance
     slice-set-from-distance
-    answered-requires-6
-    same-length-3
-    returns-6)
+    answered-requires-4
+    same_length
+    returns-4)

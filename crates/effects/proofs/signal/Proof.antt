@@ -1,5 +1,5 @@
 -- `effects::signal` meets its contract. Assumes nothing.
-use mathlib.Core.Path.{◌≡◌, refl, sym, ◌∙◌}
+use mathlib.Core.Path.{◌≡◌, refl}
 use mathlib.Core.Bool.{true, false}
 use native.Mathlib.Omega.{arith}
 use borrow.Author.Rules.{rules, sfits_of}
@@ -14,7 +14,7 @@ use Rattle.event.specs.Step.{is_device, out_of_range, sensors_of, digit_set}
 use Rattle.network.proofs.Stores.{store-one}
 use Rattle.event.proofs.Devices.{device}
 use Rattle.decide.proofs.Picks.{said-no, said-yes}
-use Rattle.effects.proofs.Refusals.{turned, carried-out, is-14, is-21, is-0}
+use Rattle.effects.proofs.Refusals.{turned, carried-out, is-14, is-0}
 use Rattle.effects.proofs.Digit.{Plain, plain}
 use Rattle.effects.proofs.signal.Statement.{statement}
 use Rattle.effects.proofs.signal.Tie as tie
@@ -31,19 +31,15 @@ in-range c = rw (
       c.if3.false,
 )
 
--- the third test, from the cell that is read after it
-abbrev third : tie.After-digit-set-arg → tie.Else3
-third c = c.before.before.before.before.before
-
 -- the cell, as it is read
 abbrev cell : tie.After-digit-set-arg → ℤ
-cell c = get_or c.before.before.before.before.before.before.before.before.before.args.net.now c.before.sensors-of.result (pos 0)
+cell c = get_or c.before.before.before.before.before.before.args.net.now c.before.sensors-of.result (pos 0)
 
 fits : (c : tie.After-digit-set-arg) → SFits w32 (cell c)
 fits c = sfits_of c.digit-set-arg.given
 
 lit : (c : tie.After-digit-set-arg) → Plain (cell c)
-lit c = plain (cell c) (rw c.before.sensors-of.ensures (third c).before.before.before.before.requires.1) c.digit-set-arg.given
+lit c = plain (cell c) (rw c.before.sensors-of.ensures c.before.before.before.before.before.before.requires.1) c.digit-set-arg.given
 
 is-device-requires : tie.Need-is-device-requires
 is-device-requires c κs = search rules
@@ -73,8 +69,34 @@ returns-3 c =
           c.before.before.before.before.before.args.switch 1 c.before.if3.true,
     ))) (λ z. omega arith) c.answered3.ensures
 
-gone-requires : tie.Need-gone-requires
-gone-requires c κs = let d = device c.before.before.before.before.before.args.a (a-is c.before.before.before) in omega arith
+sensors-of-requires : tie.Need-sensors-of-requires
+sensors-of-requires c κs = (device _ (a-is c.before.before)).0
+
+mul-digit-set : tie.Need-overflow-mul-digit-set
+mul-digit-set c = search rules
+
+slice-copy-out-digit-set : tie.Need-slice-copy-out-digit-set
+slice-copy-out-digit-set c = omega (arith, c.sensors-of.ensures, device c.before.before.before.before.before.args.a (a-is c.before.before.before))
+
+cast-digit-set : tie.Need-overflow-cast-digit-set
+cast-digit-set c = rw (to_z-of_z w32 (cell c) (fits c)) ((lit c).sign, omega (arith, (lit c).small))
+
+digit-set-requires : tie.Need-digit-set-requires
+digit-set-requires c κs = rw (to_z-of_z w32 (cell c) (fits c)) ((lit c).small, c.before.before.before.if2.false, c.before.before.if3.false)
+
+cast-net : tie.Need-overflow-cast-net
+cast-net c = search rules
+
+mul-t14 : tie.Need-overflow-mul-t14
+mul-t14 c = search rules
+
+slice-set-from-net : tie.Need-slice-set-from-net
+slice-set-from-net c = omega (
+  arith,
+  c.before.before.sensors-of.ensures,
+  device c.before.before.before.before.before.before.before.args.a
+      (a-is c.before.before.before.before.before),
+)
 
 answered-requires-4 : tie.Need-answered-requires-4
 answered-requires-4 c κs = search rules
@@ -84,56 +106,17 @@ same_length c = search rules
 
 returns-4 : tie.Need-returns-4
 returns-4 c =
-    turned _ _ _ 21 (is-21 _ _ (in-range c.before.before.before.before) refl (sym c.before.before.gone.ensures ∙ c.before.if4.true)) (λ z. omega arith) c.answered4.ensures
-
-sensors-of-requires : tie.Need-sensors-of-requires
-sensors-of-requires c κs = (device _ (a-is c.before.before.before.before.before)).0
-
-mul-digit-set : tie.Need-overflow-mul-digit-set
-mul-digit-set c = search rules
-
-slice-copy-out-digit-set : tie.Need-slice-copy-out-digit-set
-slice-copy-out-digit-set c =
-    let t = c.before.before.before.before.before.before in
-    omega (arith, c.sensors-of.ensures, device t.before.before.args.a (a-is t))
-
-cast-digit-set : tie.Need-overflow-cast-digit-set
-cast-digit-set c = rw (to_z-of_z w32 (cell c) (fits c)) ((lit c).sign, omega (arith, (lit c).small))
-
-digit-set-requires : tie.Need-digit-set-requires
-digit-set-requires c κs = rw (to_z-of_z w32 (cell c) (fits c)) ((lit c).small, (third c).before.if2.false, (third c).if3.false)
-
-cast-net : tie.Need-overflow-cast-net
-cast-net c = search rules
-
-mul-t17 : tie.Need-overflow-mul-t17
-mul-t17 c = search rules
-
-slice-set-from-net : tie.Need-slice-set-from-net
-slice-set-from-net c =
-    let t = (third c.before).before.before in
-    omega (arith, c.before.before.sensors-of.ensures, device t.before.before.args.a (a-is t))
-
-answered-requires-5 : tie.Need-answered-requires-5
-answered-requires-5 c κs = search rules
-
-same-length-2 : tie.Need-same-length-2
-same-length-2 c = search rules
-
-returns-5 : tie.Need-returns-5
-returns-5 c =
-    let u = c.before.before in
-    let g = u.before.before in
-    let s = (third u).before.before.before.before in
-    carried-out _ _ _ _ (is-0 _ _ (in-range (third u)) refl (sym g.before.gone.ensures ∙ g.if4.false) refl refl)
+    let s = c.before.before.before.before.before.before.before.before in
+    carried-out _ _ _ _ (is-0 _ _ (in-range c.before.before.before.before) refl refl)
     (λ main. rw (
       to_z-of_z w32 (pos c.before.digit_set.result) (record { sfits = c.before.digit_set.ensures.1 }),
       c.before.digit_set.ensures.0,
-      to_z-of_z w32 (cell u) (fits u),
-      u.before.sensors-of.ensures,
+      to_z-of_z w32
+          (cell c.before.before) (fits c.before.before),
+      c.before.before.before.sensors-of.ensures,
     )
     (store-one s.args.net.now (sensors_of s.args.a) (pos (digit_set s.args.sensor s.args.switch (nat_abs (get_or s.args.net.now (sensors_of s.args.a) (pos 0)))))))
-    (λ main. c.answered5.ensures)
+    (λ main. c.answered4.ensures)
 
 pub signal_spec : {M : Type 1} → statement M
 signal_spec =
@@ -146,18 +129,14 @@ signal_spec =
     returns-2
     answered-requires-3
     returns-3
-    gone-requires
-    answered-requires-4
-    same_length
-    returns-4
     sensors-of-requires
     mul-digit-set
     slice-copy-out-digit-set
     cast-digit-set
     digit-set-requires
     cast-net
-    mul-t17
+    mul-t14
     slice-set-from-net
-    answered-requires-5
-    same-length-2
-    returns-5)
+    answered-requires-4
+    same_length
+    returns-4)

@@ -9,7 +9,7 @@ use lib.Seq.{take-take}
 use lib.IntN.{ℤ, pos}
 use Rattle.field.specs.Field.{devices}
 use Rattle.network.specs.Cells.{row, store}
-use Rattle.network.specs.Network.{pending_at, age_at, presence_at}
+use Rattle.network.specs.Network.{block_size, pending_at, age_at}
 use Rattle.network.proofs.Stores.{store-all, store-on, row-row}
 use Rattle.round.specs.Round.{own}
 use Rattle.heard.specs.Measures.{own_size}
@@ -18,8 +18,8 @@ use Rattle.fire.proofs.own_cells.Statement.{statement}
 use Rattle.fire.proofs.own_cells.Tie as tie
 
 -- the cells up to the messages and the ages, stored one behind the other
-lent : (n : List ℤ) (at : ℕ) → at + presence_at ≤ length n
-    → store (store (replicate own_size (pos 0)) 0 (row n at (pending_at 1))) (pending_at 1) (row n (at + age_at 1) devices) ≡ own (row n at presence_at)
+lent : (n : List ℤ) (at : ℕ) → at + block_size ≤ length n
+    → store (store (replicate own_size (pos 0)) 0 (row n at (pending_at 1))) (pending_at 1) (row n (at + age_at 1) devices) ≡ own (row n at block_size)
 lent n at h =
     let u : List ℤ = row n at (pending_at 1) in
     let v : List ℤ = row n (at + age_at 1) devices in
@@ -27,7 +27,7 @@ lent n at h =
     let lv : length v ≡ devices = row-length n (at + age_at 1) devices (omega arith) in
     store-on (replicate own_size (pos 0)) 0 (pending_at 1) u v (omega (arith, lu))
     ∙ (store-all (replicate own_size (pos 0)) (u ++ v) (omega (arith, length-replicate own_size (pos 0), length-append u v, lu, lv))
-    ∙ rw (take-take (pending_at 1) presence_at (drop at n) (omega arith), row-row n at presence_at (age_at 1) devices (omega arith)))
+    ∙ rw (take-take (pending_at 1) block_size (drop at n) (omega arith), row-row n at block_size (age_at 1) devices (omega arith)))
 
 slice-aggregate-copy : tie.Need-slice-aggregate-copy
 slice-aggregate-copy c = search rules

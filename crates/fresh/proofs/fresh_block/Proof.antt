@@ -8,7 +8,7 @@ use borrow.Author.Rules.{rules}
 use lib.IntN.{ℤ, pos}
 use lib.ListN.{length, set, replicate, length-set}
 use Rattle.number.specs.Number.{mark}
-use Rattle.network.specs.Network.{sensors_at, pending_at, presence_at, block_size, copies}
+use Rattle.network.specs.Network.{sensors_at, pending_at, block_size, copies}
 use Rattle.fresh.proofs.fresh_block.Statement.{statement}
 use Rattle.fresh.proofs.fresh_block.Tie as tie
 
@@ -52,15 +52,12 @@ loop-again c =
     let l = c.before.loop in
     (omega arith, length-set l.block _ _ ∙ l.invariant.1, rw (l.invariant.2, add-one l.b))
 
-array-set-of-block-3 : tie.Need-array-set-of-block-3 invariant-loop decreases-loop
-array-set-of-block-3 c = search rules
-
 returns : tie.Need-returns invariant-loop decreases-loop
 unfolding copies
 returns c =
     let l = c.before.loop in
     let e : l.b ≡ 16 = omega arith in
-    ap (λ (x : List ℤ). set x presence_at (pos 1)) (l.invariant.2 ∙ ap so_far e)
+    l.invariant.2 ∙ ap so_far e
 
 pub fresh-block-spec : {M : Type 1} → statement M
 fresh-block-spec =
@@ -77,5 +74,4 @@ fresh-block-spec =
     add-b
     loop-less
     loop-again
-    array-set-of-block-3
     returns)

@@ -20,22 +20,14 @@ returns-5 : tie.Need-returns-5
 returns-5 c = sym (rw c.match.keys5)
 
 returns-6 : tie.Need-returns-6
-returns-6 c = sym (rw c.match.keys6)
-
-returns-7 : tie.Need-returns-7
-returns-7 c = sym (rw c.match.keys7)
-
-returns-8 : tie.Need-returns-8
-returns-8 c = let h = c.match.rest in sym (rw (
-  ne_eqb c.before.args.tag 0x10 h.0.0.0.0.0.0.1,
-  ne_eqb c.before.args.tag 0x11 h.0.0.0.0.0.1,
-  ne_eqb c.before.args.tag 0x12 h.0.0.0.0.1,
-  ne_eqb c.before.args.tag 0x13 h.0.0.0.1,
-  ne_eqb c.before.args.tag 0x14 h.0.0.1,
-  ne_eqb c.before.args.tag 0x15 h.0.1,
-  ne_eqb c.before.args.tag 0x16 h.1,
+returns-6 c = let h = c.match.rest in sym (rw (
+  ne_eqb c.before.args.tag 16 h.0.0.0.0.1,
+  ne_eqb c.before.args.tag 17 h.0.0.0.1,
+  ne_eqb c.before.args.tag 18
+      h.0.0.1,
+  ne_eqb c.before.args.tag 19 h.0.1,
+  ne_eqb c.before.args.tag 20 h.1,
 ))
 
 pub body-length-spec : {M : Type 1} → statement M
-body-length-spec =
-    tie.close (tie.spec returns returns-2 returns-3 returns-4 returns-5 returns-6 returns-7 returns-8)
+body-length-spec = tie.close (tie.spec returns returns-2 returns-3 returns-4 returns-5 returns-6)

@@ -29,20 +29,13 @@ len-12 c = length-of 0x12 _ _ c.match.keys3 (event c.before)
 len-13 : (c : tie.At-match-keys4) → c.before.before.before.before.args.len ≡ 6
 len-13 c = length-of 0x13 _ _ c.match.keys4 (event c.before)
 
-len-14 : (c : tie.At-match-keys5) → c.before.before.before.before.args.len ≡ 3
-len-14 c = length-of 0x14 _ _ c.match.keys5 (event c.before)
-
-len-15 : (c : tie.At-match-keys6) → c.before.before.before.before.args.len ≡ 1
-len-15 c = length-of 0x15 _ _ c.match.keys6 (event c.before)
-
-tag-16 : (c : tie.At-match-rest) → c.before.before.before.before.args.tag ≡ 0x16
-tag-16 c =
+tag-14 : (c : tie.At-match-rest) → c.before.before.before.before.args.tag ≡ 0x14
+tag-14 c =
     let h = c.match.rest in
-    last-tag _ _ (event c.before) (ne_eqb _ 0x10 h.0.0.0.0.0.1) (ne_eqb _ 0x11 h.0.0.0.0.1) (ne_eqb _ 0x12 h.0.0.0.1) (ne_eqb _ 0x13 h.0.0.1)
-    (ne_eqb _ 0x14 h.0.1) (ne_eqb _ 0x15 h.1)
+    last-tag _ _ (event c.before) (ne_eqb _ 0x10 h.0.0.0.1) (ne_eqb _ 0x11 h.0.0.1) (ne_eqb _ 0x12 h.0.1) (ne_eqb _ 0x13 h.1)
 
-len-16 : (c : tie.At-match-rest) → c.before.before.before.before.args.len ≡ 1
-len-16 c = length-of 0x16 _ _ (tag-16 c) (event c.before)
+len-14 : (c : tie.At-match-rest) → c.before.before.before.before.args.len ≡ 3
+len-14 c = length-of 0x14 _ _ (tag-14 c) (event c.before)
 
 is-event-requires : tie.Need-is-event-requires
 is-event-requires c κs = search rules
@@ -89,12 +82,6 @@ add-t25 c = search rules
 shared-slice-read-t27 : tie.Need-shared-slice-read-t27
 shared-slice-read-t27 c = omega (arith, len-14 c.before.before.before)
 
-shared-slice-read-t29 : tie.Need-shared-slice-read-t29
-shared-slice-read-t29 c = omega (arith, len-15 c.before)
-
-shared-slice-read-t31 : tie.Need-shared-slice-read-t31
-shared-slice-read-t31 c = omega (arith, len-16 c.before)
-
 returns-2 : tie.Need-returns-2
 unfolding read_as
 returns-2 c =
@@ -120,19 +107,7 @@ returns-6 : tie.Need-returns-6
 unfolding read_as
 returns-6 c =
     let s = c.before.before.before.before.before.before.before in
-    rw (c.before.before.before.match.keys5, len-14 c.before.before.before, body_is s.args.s.now s.args.start 2 (let h = len-14 c.before.before.before in omega arith))
-
-returns-7 : tie.Need-returns-7
-unfolding read_as
-returns-7 c =
-    let s = c.before.before.before.before.before in
-    rw (c.before.match.keys6, len-15 c.before, body_is s.args.s.now s.args.start 0 (let h = len-15 c.before in omega arith))
-
-returns-8 : tie.Need-returns-8
-unfolding read_as
-returns-8 c =
-    let s = c.before.before.before.before.before in
-    rw (tag-16 c.before, len-16 c.before, body_is s.args.s.now s.args.start 0 (let h = len-16 c.before in omega arith))
+    rw (tag-14 c.before.before.before, len-14 c.before.before.before, body_is s.args.s.now s.args.start 2 (let h = len-14 c.before.before.before in omega arith))
 
 pub event-of-spec : {M : Type 1} → statement M
 event-of-spec =
@@ -153,12 +128,8 @@ event-of-spec =
     shared-slice-read-t24
     add-t25
     shared-slice-read-t27
-    shared-slice-read-t29
-    shared-slice-read-t31
     returns-2
     returns-3
     returns-4
     returns-5
-    returns-6
-    returns-7
-    returns-8)
+    returns-6)

@@ -37,18 +37,6 @@ enum-known-e-5 c = search rules
 signal-requires : tie.Need-signal-requires
 signal-requires c κs = (c.before.before.before.before.requires.0.whole, c.before.before.before.before.requires.1 _)
 
-enum-known-e-6 : tie.Need-enum-known-e-6
-enum-known-e-6 c = search rules
-
-leave-requires : tie.Need-leave-requires
-leave-requires c κs = search rules
-
-enum-known-e-7 : tie.Need-enum-known-e-7
-enum-known-e-7 c = search rules
-
-come-back-requires : tie.Need-come-back-requires
-come-back-requires c κs = search rules
-
 enum_told : tie.Need-enum-told
 enum_told c = search rules
 
@@ -89,19 +77,7 @@ same-length-6 : tie.Need-same-length-6
 same-length-6 c = search rules
 
 returns-6 : tie.Need-returns-6
-returns-6 c = acts _ (ap meant c.before.before.before.before.e6.given.1) c.before.leave.ensures
-
-same-length-7 : tie.Need-same-length-7
-same-length-7 c = search rules
-
-returns-7 : tie.Need-returns-7
-returns-7 c = acts _ (ap meant c.before.before.before.before.e7.given.1) c.before.come-back.ensures
-
-same-length-8 : tie.Need-same-length-8
-same-length-8 c = search rules
-
-returns-8 : tie.Need-returns-8
-returns-8 c = acts-fire _ (ap meant c.before.before.before.before.enum_told.given.1) c.before.fire2.ensures
+returns-6 c = acts-fire _ (ap meant c.before.before.before.before.enum_told.given.1) c.before.fire2.ensures
 
 pub do-event-spec : {M : Type 1} → statement M
 do-event-spec =
@@ -117,10 +93,6 @@ do-event-spec =
     link-requires
     enum-known-e-5
     signal-requires
-    enum-known-e-6
-    leave-requires
-    enum-known-e-7
-    come-back-requires
     enum_told
     fire-requires-2
     same_length
@@ -134,8 +106,4 @@ do-event-spec =
     same-length-5
     returns-5
     same-length-6
-    returns-6
-    same-length-7
-    returns-7
-    same-length-8
-    returns-8)
+    returns-6)

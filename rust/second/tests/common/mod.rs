@@ -4,7 +4,7 @@
 pub const INF: i32 = i32::MAX;
 pub const FLOOR: i32 = -INF;
 pub const ABSENT: i32 = i32::MIN;
-pub const CELLS: usize = 8_736;
+pub const CELLS: usize = 8_720;
 
 pub const ADD: u8 = 0;
 pub const SUB: u8 = 1;
@@ -141,7 +141,7 @@ pub fn fresh() -> Vec<i32> {
 }
 
 pub fn block(a: usize) -> usize {
-    (a - 1) * 546
+    (a - 1) * 545
 }
 
 pub fn variable_cell(a: usize, v: usize) -> usize {
@@ -160,11 +160,6 @@ pub fn pending_cell(a: usize, b: usize, i: usize) -> usize {
 /// The age of what a last heard from b.
 pub fn age_cell(a: usize, b: usize) -> usize {
     block(a) + 529 + (b - 1)
-}
-
-/// 1 where a is present, 0 where it is gone.
-pub fn presence_cell(a: usize) -> usize {
-    block(a) + 545
 }
 
 /// Writes slot i heard by a from b, and an age of 0 beside it.
@@ -193,14 +188,6 @@ pub fn link(a: u8, b: u8, distance: i32) -> Vec<u8> {
 
 pub fn signal(a: u8, sensor: u8, switch: u8) -> Vec<u8> {
     vec![0x14, 0, 3, a, sensor, switch]
-}
-
-pub fn leave(a: u8) -> Vec<u8> {
-    vec![0x15, 0, 1, a]
-}
-
-pub fn back(a: u8) -> Vec<u8> {
-    vec![0x16, 0, 1, a]
 }
 
 /// Runs a list that is not refused as a whole; the answer pairs.
