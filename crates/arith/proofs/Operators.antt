@@ -1,10 +1,10 @@
 -- Which operator a number names, and when it faults. Assumes nothing.
-use mathlib.Core.Path.{_≡_, refl, sym, ap, _∙_}
+use mathlib.Core.Path.{◌≡◌, refl, sym, ap, ◌∙◌}
 use mathlib.Core.Bool.{false, false≢true}
 use Prim.Native.Nat.{ℕ, zero, suc}
 use lib.IntN.{ℤ, pos}
-use Rattle·number.specs.Number.{ne, operator_of, operation_result, faults}
-use Rattle·arith·proofs.proofs.Signs.{eq_z-yes}
+use Rattle.number.specs.Number.{ne, operator_of, operation_result, faults}
+use Rattle.arith.proofs.Signs.{eq_z-yes}
 
 -- the number k names the operator that o names
 pub at : {o k : ℕ} (x y : ℤ) → o ≡ k → operation_result (operator_of k) x y ≡ operation_result (operator_of o) x y

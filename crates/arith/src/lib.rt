@@ -1,8 +1,8 @@
 // The nine operators on numbers, each exactly as crate number has it.
-ghost use mathlib.Core.Path.{_≡_};
-ghost use mathlib.Core.Bool.{false};
-ghost use lib.IntN.{pos};
-ghost use Rattle·number.specs.Number.{operator_of, brought, plus, minus, times, over, operation_result, faults};
+#![tactic(auto)]
+
+ghost use Rattle.std.specs.Prelude.{◌≡◌, false, pos};
+ghost use Rattle.number.specs.Number.{operator_of, brought, plus, minus, times, over, operation_result, faults};
 
 const INF: i32 = 2147483647;
 
@@ -15,7 +15,7 @@ pub const DIVISION: u8 = 3;
 
 // An exact result brought into floor..inf.
 fn bring(z: i64) -> i32
-    ensures { λ r. ⌜ r ≡ brought z ⌝ }
+    ensures { result ≡ brought z }
 {
     if z > 2147483647 {
         INF
@@ -28,7 +28,7 @@ fn bring(z: i64) -> i32
 
 // "+ with an inf is inf"
 pub fn add(x: i32, y: i32) -> i32
-    ensures { λ r. ⌜ r ≡ plus x y ⌝ }
+    ensures { result ≡ plus x y }
 {
     if x == INF { // inf + n
         return INF;
@@ -41,7 +41,7 @@ pub fn add(x: i32, y: i32) -> i32
 
 // "inf - n is inf; n - inf is floor for other n"
 pub fn sub(x: i32, y: i32) -> i32
-    ensures { λ r. ⌜ r ≡ minus x y ⌝ }
+    ensures { result ≡ minus x y }
 {
     if x == INF { // inf - n
         return INF;
@@ -54,15 +54,15 @@ pub fn sub(x: i32, y: i32) -> i32
 
 // × has no rule of its own for inf.
 pub fn mul(x: i32, y: i32) -> i32
-    ensures { λ r. ⌜ r ≡ times x y ⌝ }
+    ensures { result ≡ times x y }
 {
     bring((x as i64) * (y as i64))
 }
 
 // "inf / n is inf for n > 0, floor for n < 0; n / inf is 0 for other n. Division drops the fraction." The divisor is not 0.
 pub fn div(x: i32, y: i32) -> i32
-    requires { ⌜ (y ≡ pos 0 → ⊥) ⌝ }
-    ensures { λ r. ⌜ r ≡ over x y ⌝ }
+    requires { y ≡ pos 0 → ⊥ }
+    ensures { result ≡ over x y }
 {
     if x == INF { // inf / n
         if 0 < y {
@@ -78,8 +78,8 @@ pub fn div(x: i32, y: i32) -> i32
 
 // Any operator but division. It stands apart so that it is small enough to be put in place where it is called.
 pub fn operate(o: u8, x: i32, y: i32) -> i32
-    requires { ⌜ (o ≡ 3 → ⊥) ⌝ }
-    ensures { λ r. ⌜ r ≡ operation_result (operator_of o) x y ⌝ }
+    requires { o ≡ 3 → ⊥ }
+    ensures { result ≡ operation_result (operator_of o) x y }
 {
     match o {
         0 => add(x, y),
@@ -95,7 +95,7 @@ pub fn operate(o: u8, x: i32, y: i32) -> i32
 
 // Whether an operator is a division by 0.
 pub fn zero_divisor(o: u8, y: i32) -> bool
-    ensures { λ r. ⌜ r ≡ faults (operator_of o) y ⌝ }
+    ensures { result ≡ faults (operator_of o) y }
 {
     if o == DIVISION {
         if y == 0 {
@@ -107,8 +107,8 @@ pub fn zero_divisor(o: u8, y: i32) -> bool
 
 // An operator that is no division by 0.
 pub fn operate_any(o: u8, x: i32, y: i32) -> i32
-    requires { ⌜ faults (operator_of o) y ≡ false ⌝ }
-    ensures { λ r. ⌜ r ≡ operation_result (operator_of o) x y ⌝ }
+    requires { faults (operator_of o) y ≡ false }
+    ensures { result ≡ operation_result (operator_of o) x y }
 {
     if o == DIVISION {
         return div(x, y);

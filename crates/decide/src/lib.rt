@@ -1,1 +1,2 @@
 // Laws only, in proofs/: a test, and what it picks.
+#![tactic(auto)]

@@ -1,4 +1,5 @@
 // Fields held as sixteen numbers beside their domain, combined pointwise, and a domain walked from its lowest device up.
+#![tactic(auto)]
 ghost use Rattle.std.specs.Prelude.{◌≡◌, true, false, ◌∷◌, ℕ, ◌<◌, length, get_or, replicate, pos};
 ghost use Rattle.std.proofs.Math.Option.{none};
 ghost use Rattle.std.specs.Int.Count.{count_trailing_zeros};
@@ -11,7 +12,7 @@ ghost use Rattle.domain.specs.Members.{members, any_zero};
 use arith::{DIVISION, SUM};
 
 // A domain: bit k says whether device k + 1 is in it. A walk takes the lowest device and goes on with the rest while a device is left.
-#[derive(Drop)]
+#[derive(Clone, Copy)]
 pub struct Domain {
     pub bits: u16,
 }
@@ -19,7 +20,7 @@ pub struct Domain {
 impl Domain {
     // How many devices there are.
     pub fn size(self) -> u32
-        ensures* { λ r. ⌜ r ≡ length (members self.bits) ⌝ }
+        ensures { result ≡ length (members self.bits) }
     {
         u16::count_ones(self.bits)
     }
@@ -27,7 +28,7 @@ impl Domain {
     // The lowest device, counted from 0.
     pub fn lowest(self) -> usize
         requires { 0 < self.bits }
-        ensures* { λ r. ⌜ (r < 16) × (r ≡ count_trailing_zeros 16 self.bits) ⌝ }
+        ensures { (result < 16) × (result ≡ count_trailing_zeros 16 self.bits) }
     {
         u16::trailing_zeros(self.bits) as usize
     }
@@ -35,7 +36,7 @@ impl Domain {
     // The rest without the lowest device.
     pub fn rest(self) -> Domain
         requires { 0 < self.bits }
-        ensures* { λ r. ⌜ (r.bits < self.bits) × (members self.bits ≡ count_trailing_zeros 16 self.bits ∷ members r.bits) ⌝ }
+        ensures { (result.bits < self.bits) × (members self.bits ≡ count_trailing_zeros 16 self.bits ∷ members result.bits) }
     {
         let one: u16 = 1;
         Domain {
@@ -53,7 +54,7 @@ pub struct Held {
 
 // A number at each device.
 pub fn spread(v: i32) -> Held
-    ensures* { λ r. ⌜ held r ≡ everywhere v ⌝ }
+    ensures { held result ≡ everywhere v }
 {
     let cells = [v; 16];
     Held {
@@ -64,7 +65,7 @@ pub fn spread(v: i32) -> Held
 
 // The field of no device.
 pub fn no_field() -> Held
-    ensures* { λ r. ⌜ held r ≡ replicate 16 none ⌝ }
+    ensures { held result ≡ replicate 16 none }
 {
     let z: i32 = 0;
     let cells = [z; 16];
@@ -76,7 +77,7 @@ pub fn no_field() -> Held
 
 // Whether a cell in the domain is 0. The walk is as long as the size says, which goes down with each device.
 fn zero_in(dom: Domain, ys: &[i32; 16]) -> bool
-    ensures* { λ r. ⌜ r ≡ any_zero (members dom.bits) ys.now ⌝ }
+    ensures { result ≡ any_zero (members dom.bits) ys.now }
 {
     let mut left = dom;
     let mut size = dom.size();
@@ -99,7 +100,7 @@ pub fn faults_in<'a>(
     right: Domain,
     ys: &'a [i32; 16],
 ) -> bool
-    ensures* { λ q. ⌜ q ≡ faults_in (operator_of o) (field_of left.bits xs.now) (field_of right.bits ys.now) ⌝ }
+    ensures { result ≡ faults_in (operator_of o) (field_of left.bits xs.now) (field_of right.bits ys.now) }
 {
     if o == DIVISION {
         let common = left.bits & right.bits;
@@ -111,7 +112,7 @@ pub fn faults_in<'a>(
 // The quotients in the domain, where no divisor is 0. The other cells are 0.
 fn each_div(dom: Domain, xs: &[i32; 16], ys: &[i32; 16]) -> [i32; 16]
     requires { any_zero (members dom.bits) ys.now ≡ false }
-    ensures* { λ r. ⌜ ((k : ℕ) → k < 16 → has_bit k dom.bits ≡ true → get_or r k (pos 0) ≡ over (get_or xs.now k (pos 0)) (get_or ys.now k (pos 0))) ⌝ }
+    ensures { ((k : ℕ) → k < 16 → has_bit k dom.bits ≡ true → get_or result k (pos 0) ≡ over (get_or xs.now k (pos 0)) (get_or ys.now k (pos 0))) }
 {
     let z: i32 = 0;
     let mut out = [z; 16];
@@ -127,7 +128,7 @@ fn each_div(dom: Domain, xs: &[i32; 16], ys: &[i32; 16]) -> [i32; 16]
 
 // Sums on all sixteen cells, in the domain or not: so the loop has no test. The most common operator has a loop of its own.
 fn each_sum(xs: &[i32; 16], ys: &[i32; 16]) -> [i32; 16]
-    ensures* { λ r. ⌜ ((k : ℕ) → k < 16 → get_or r k (pos 0) ≡ plus (get_or xs.now k (pos 0)) (get_or ys.now k (pos 0))) ⌝ }
+    ensures { ((k : ℕ) → k < 16 → get_or result k (pos 0) ≡ plus (get_or xs.now k (pos 0)) (get_or ys.now k (pos 0))) }
 {
     let z: i32 = 0;
     let mut out = [z; 16];
@@ -143,7 +144,7 @@ fn each_sum(xs: &[i32; 16], ys: &[i32; 16]) -> [i32; 16]
 // Any other operator, likewise.
 fn each(o: u8, xs: &[i32; 16], ys: &[i32; 16]) -> [i32; 16]
     requires { o ≡ 3 → ⊥ }
-    ensures* { λ r. ⌜ ((k : ℕ) → k < 16 → get_or r k (pos 0) ≡ operation_result (operator_of o) (get_or xs.now k (pos 0)) (get_or ys.now k (pos 0))) ⌝ }
+    ensures { ((k : ℕ) → k < 16 → get_or result k (pos 0) ≡ operation_result (operator_of o) (get_or xs.now k (pos 0)) (get_or ys.now k (pos 0))) }
 {
     let z: i32 = 0;
     let mut out = [z; 16];
@@ -159,7 +160,7 @@ fn each(o: u8, xs: &[i32; 16], ys: &[i32; 16]) -> [i32; 16]
 // The cells of an operator on two fields that share the devices of dom.
 fn lanes<'a>(o: u8, dom: Domain, xs: &'a [i32; 16], ys: &'a [i32; 16]) -> [i32; 16]
     requires { o ≡ 3 → any_zero (members dom.bits) ys.now ≡ false }
-    ensures* { λ r. ⌜ ((k : ℕ) → k < 16 → has_bit k dom.bits ≡ true → get_or r k (pos 0) ≡ operation_result (operator_of o) (get_or xs.now k (pos 0)) (get_or ys.now k (pos 0))) ⌝ }
+    ensures { ((k : ℕ) → k < 16 → has_bit k dom.bits ≡ true → get_or result k (pos 0) ≡ operation_result (operator_of o) (get_or xs.now k (pos 0)) (get_or ys.now k (pos 0))) }
 {
     if o == DIVISION {
         return each_div(dom, xs, ys);
@@ -173,7 +174,7 @@ fn lanes<'a>(o: u8, dom: Domain, xs: &'a [i32; 16], ys: &'a [i32; 16]) -> [i32; 
 // An operator on two fields: at the devices that they share.
 pub fn shared<'a>(o: u8, left: Domain, xs: &'a [i32; 16], right: Domain, ys: &'a [i32; 16]) -> Held
     requires { faults_in (operator_of o) (field_of left.bits xs.now) (field_of right.bits ys.now) ≡ false }
-    ensures* { λ q. ⌜ held q ≡ pointwise (operator_of o) (field_of left.bits xs.now) (field_of right.bits ys.now) ⌝ }
+    ensures { held result ≡ pointwise (operator_of o) (field_of left.bits xs.now) (field_of right.bits ys.now) }
 {
     let bits = left.bits & right.bits;
     let dom = Domain { bits: bits };

@@ -1,4 +1,5 @@
 // The word of one node.
+#![tactic(auto)]
 ghost use Rattle.std.specs.Prelude.{◌≡◌, Bool, cond, ◌<◌};
 ghost use Rattle.program.specs.Table.{kind_count};
 ghost use Rattle.shapes.specs.Kinds.{operator_kind};

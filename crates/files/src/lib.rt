@@ -1,4 +1,5 @@
 // A whole file, read into a lent buffer.
+#![tactic(auto)]
 ghost use Rattle.files.specs.Whole.{Shorter};
 
 #[derive(Drop)]

@@ -1,6 +1,7 @@
 // The fields of what a device heard: the numbers in a slot, and a measure of those heard with 0 in it.
 //
 // `here`: what a round reads, the device's cells but its messages, with the ages where those begin.
+#![tactic(auto)]
 ghost use Rattle.std.specs.Prelude.{◌≡◌, ◌+◌, ◌*◌, ◌<◌};
 ghost use Rattle.domain.specs.Held.{held};
 ghost use Rattle.domain.specs.Members.{bit};

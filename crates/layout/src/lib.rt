@@ -1,5 +1,6 @@
 // The sizes and places that code above shares, each said once. The definitions have names of their own for them, and a
 // proof that code meets its contract fails where the two differ.
+#![tactic(auto)]
 
 // Devices, senders, slots of a message, variables of a device: sixteen each.
 pub const DEVICES: usize = 16;

@@ -1,6 +1,7 @@
 // Nodes that are done in place: a leaf (constant, parameter, variable), and an operator on two leaves.
 //
 // `t`: a word a node. `st`: the state (crate apply). `env`: the parameters. `n`: the node.
+#![tactic(auto)]
 ghost use Rattle.std.specs.Prelude.{ℤ, List};
 ghost use Rattle.round.specs.Round.{eval};
 ghost use Rattle.words.specs.Trees.{tree_at};

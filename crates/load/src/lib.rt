@@ -1,11 +1,12 @@
 // Loads a program table: the fields of its bytes one after the other, each refused or taken into a table by value.
+#![tactic(auto)]
 ghost use Rattle.std.specs.Prelude.{◌≡◌, ◌≤◌};
 ghost use Rattle.program.specs.Table.{node_limit};
 ghost use Rattle.load.specs.Loads.{Loads};
 ghost use Rattle.load.specs.Steps.{table_in, refusal, end_number};
 
 // A call or fold by definition d has counts[d] parameters and the body bodies[d].
-#[derive(Drop)]
+#[derive(Clone, Copy)]
 pub struct Table {
     pub nodes: [nodes::Node; layout::NODES],
     pub counts: [u8; layout::BYTES],

@@ -1,9 +1,10 @@
 // A loaded node, and the bytes that one is read from.
+#![tactic(auto)]
 ghost use Rattle.std.specs.Prelude.{◌≡◌, get_or};
 ghost use Rattle.nodes.specs.Body.{no_node};
 
 // item: the byte that is no child (operator, parameter, variable, slot, definition); kids: how many of a to d are children.
-#[derive(Drop)]
+#[derive(Clone, Copy)]
 pub struct Node {
     pub kind: u8,
     pub item: u8,

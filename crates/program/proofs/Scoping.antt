@@ -69,7 +69,7 @@ module _ (count : ℕ) where
   scoped-read (S-call h k l m) = nil-both (scoped-read h) (nil-both (scoped-read k) (nil-both (scoped-read l) (scoped-read m)))
 
 -- the same of all definitions
-pub bodies-scoped : (t : Table) {ds : List Definition} {d : Definition} → misread_in t ds ≡ [] → Memᴰ d ds → Scoped d.count [] (tree t d.body)
+pub bodies-scoped : (t : Table) {d : Definition} {ds : List Definition} → misread_in t ds ≡ [] → Memᴰ d ds → Scoped d.count [] (tree t d.body)
 unfolding misread_in
 bodies-scoped t {d = d} q (Memᴰ.head {x = c} e) =
     subst (λ (x : Definition). Scoped x.count [] (tree t x.body)) (sym e)

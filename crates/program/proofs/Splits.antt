@@ -15,7 +15,7 @@ pub record Splits (ps : List Part) (p : Part) : Type 0 where
   pub after : List Part
   pub same : ps ≡ before ++ p ∷ after
 
-pub splits : {ps : List Part} {p : Part} → Memᴰ p ps → Splits ps p
+pub splits : {p : Part} {ps : List Part} → Memᴰ p ps → Splits ps p
 splits (Memᴰ.head {xs = qs} e) = record { before = []; after = qs; same = ap (λ (q : Part). q ∷ qs) (sym e) }
 splits (Memᴰ.tail {x = q} m) =
     let r = splits m in

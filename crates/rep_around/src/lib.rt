@@ -1,4 +1,5 @@
 // The rep that binds a name, found by a walk outwards over the tokens before it; what a name stands for.
+#![tactic(auto)]
 ghost use Rattle.std.specs.Prelude.{◌≡◌, ◌+◌, ◌≤◌, ◌<◌, length, take};
 ghost use Rattle.notation.specs.Words.{between};
 ghost use Rattle.notation.proofs.Lexing.{lex};
@@ -7,7 +8,7 @@ ghost use Rattle.rep_around.specs.Outward.{Outward, binds_here, stepped, meant_o
 ghost use Rattle.rep_around.specs.Meaning.{meaning_at};
 
 // A variable, or a parameter, by its number.
-#[derive(Drop)]
+#[derive(Clone, Copy)]
 pub struct Meant {
     pub bound: bool,
     pub number: usize,
@@ -15,7 +16,7 @@ pub struct Meant {
 
 // Outwards from an expression: the brackets still to be opened that were closed on the way, the items passed of the form around it,
 // the last word passed among them, a..b, and the one before it on the way, c..d.
-#[derive(Drop)]
+#[derive(Clone, Copy)]
 pub struct Walk {
     pub depth: usize,
     pub items: usize,
