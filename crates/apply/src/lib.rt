@@ -2,6 +2,7 @@
 //
 // The state, `st`: from cell 0 on the variables, from SENT on what is sent in each slot, at FAULT the fault: 0, or one more than the node that divided by 0.
 #![tactic(auto)]
+
 ghost use Rattle.std.specs.Prelude.{◌≡◌, ◌+◌, ◌<◌, pos, length};
 ghost use Rattle.number.specs.Number.{div, operator_of};
 ghost use Rattle.domain.specs.Held.{field_of};

@@ -1,5 +1,6 @@
 // Refusal 20: whether every name of a program's text resolves, by one pass over its tokens.
 #![tactic(auto)]
+
 ghost use Rattle.std.specs.Prelude.{◌≡◌, not, ◌&&◌, [], ◌-◌, ◌≤◌, ◌<◌, length, take};
 ghost use Rattle.notation.specs.Words.{between, one_of, own_name};
 ghost use Rattle.translation.specs.Names.{known};

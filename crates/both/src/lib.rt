@@ -1,5 +1,6 @@
 // Two orders of one shift, run side by side: the contract is demand 3 of what they leave.
 #![tactic(auto)]
+
 ghost use Rattle.both.specs.Both.{Both, first, second};
 
 // What the two runs returned.

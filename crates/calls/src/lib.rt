@@ -1,5 +1,6 @@
 // One event, and a list of them: the tests in the order of the refusal table, then the events.
 #![tactic(auto)]
+
 ghost use Rattle.std.specs.Prelude.{◌≡◌};
 ghost use Rattle.event.specs.Calls.{carried_out, one_event, run as run_of};
 ghost use Rattle.lists.specs.Listed.{count_of};

@@ -1,5 +1,6 @@
 // Which cells of a network are sound, one at a time. Devices, rows and slots are counted from 0 here.
 #![tactic(auto)]
+
 ghost use Rattle.std.specs.Prelude.{◌≡◌, suc, ◌+◌, ◌*◌, ◌≤◌, ◌<◌, length, eqb};
 ghost use Rattle.number.specs.Number.{mark, eq_z};
 ghost use Rattle.network.specs.Cells.{row};

@@ -1,5 +1,6 @@
 // A network's cells: where they stand, which distance one may hold, a row with nothing pending, and one loop that copies cells.
 #![tactic(auto)]
+
 ghost use Rattle.std.specs.Prelude.{◌≡◌, ◌&&◌, ◌+◌, ◌≤◌, length, replicate, pos};
 ghost use Rattle.number.specs.Number.{mark, eq_z};
 ghost use Rattle.network.specs.Cells.{row, store};

@@ -1,6 +1,7 @@
 // From a text of the grammar to the bytes of its table, in one pass over its tokens: a node is written where its expression ends, a definition where its bracket closes. What waits for the
 // node that names it is a number on a stack. Nothing is kept of the text: whatever a node needs is found by a scan of what stands before it.
 #![tactic(auto)]
+
 ghost use Rattle.std.specs.Prelude.{◌≡◌, ◌&&◌, ◌||◌, [], reverse, ◌+◌, ◌-◌, ◌≤◌, ◌<◌, eqb, ltb, length, take, set};
 ghost use Rattle.notation.specs.Words.{between};
 ghost use Rattle.notation.proofs.Lexing.{lex};

@@ -1,6 +1,7 @@
 // The cost of a program, by recursion over its tree, each body's cost noted once: a tree of more than 2^32 nodes costs no
 // more steps than the table has nodes and operands. Costs are counted up to 1,000,001.
 #![tactic(auto)]
+
 ghost use Rattle.std.specs.Prelude.{◌≡◌, ◌+◌, ◌*◌, ◌<◌, ◌≤◌};
 ghost use Rattle.program.specs.Table.{node_limit};
 ghost use Rattle.program.specs.Tree.{cost as costOf};

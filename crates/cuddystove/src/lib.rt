@@ -1,5 +1,6 @@
 // The calls from outside. Each is thin over the crate that does its work.
 #![tactic(auto)]
+
 ghost use Rattle.std.specs.Prelude.{◌≡◌};
 ghost use Rattle.program.specs.Check.{check};
 ghost use Rattle.network.specs.Network.{fresh_call};

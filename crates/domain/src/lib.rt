@@ -1,5 +1,6 @@
 // Fields held as sixteen numbers beside their domain, combined pointwise, and a domain walked from its lowest device up.
 #![tactic(auto)]
+
 ghost use Rattle.std.specs.Prelude.{◌≡◌, true, false, ◌∷◌, ℕ, ◌<◌, length, get_or, replicate, pos};
 ghost use Rattle.std.proofs.Math.Option.{none};
 ghost use Rattle.std.specs.Int.Count.{count_trailing_zeros};

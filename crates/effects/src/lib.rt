@@ -1,5 +1,6 @@
 // Every event but fire, on the network's cells, each exactly as the crate event defines it.
 #![tactic(auto)]
+
 ghost use Rattle.std.specs.Prelude.{◌≡◌, true, ◌+◌, ◌<◌, ◌≤◌, length, get_or, pos};
 ghost use Rattle.std.specs.Int.Signed.{le_z};
 ghost use Rattle.network.specs.Cells.{row, store};

@@ -1,5 +1,6 @@
 // The word of one node.
 #![tactic(auto)]
+
 ghost use Rattle.std.specs.Prelude.{◌≡◌, Bool, cond, ◌<◌};
 ghost use Rattle.program.specs.Table.{kind_count};
 ghost use Rattle.shapes.specs.Kinds.{operator_kind};

@@ -3,6 +3,7 @@
 // `t`: a word a node. `u`: the variables of the reps under each node. `here`: what the round reads, the device's cells but its messages, with the ages where those begin.
 // `st`: the state (crate apply). `env`: the parameters. `n`: the node.
 #![tactic(auto)]
+
 ghost use Rattle.std.specs.Prelude.{◌≡◌, cond, ◌%◌, ◌<◌, ◌≤◌, pos};
 ghost use Rattle.domain.specs.Held.{field_of};
 ghost use Rattle.round.specs.Round.{field, done, arguments, range_in, lag_in, sending, eval};

@@ -1,5 +1,6 @@
 // What a device heard, one round on: every age present is 1 more, and at 3 it and its sender's slots are absent.
 #![tactic(auto)]
+
 ghost use Rattle.std.specs.Prelude.{◌≡◌, false, not, map, ◌+◌, ◌-◌, ◌*◌, ◌≤◌, ◌<◌, eqb, pos, length, get_or};
 ghost use Rattle.field.specs.Field.{devices, each};
 ghost use Rattle.network.specs.Cells.{row, store};

@@ -1,5 +1,6 @@
 // A whole file, read into a lent buffer.
 #![tactic(auto)]
+
 ghost use Rattle.files.specs.Whole.{Shorter};
 
 #[derive(Drop)]

@@ -3,6 +3,7 @@
 // `here`: what a round reads, the device's cells but its messages, with the ages where those begin. `st`: the round's state (crate apply), lent by the run and made anew
 // for each round.
 #![tactic(auto)]
+
 ghost use Rattle.std.specs.Prelude.{◌≡◌, ◌+◌, ◌*◌, ◌<◌, ◌≤◌, length};
 ghost use Rattle.field.specs.Field.{devices, each};
 ghost use Rattle.network.specs.Cells.{row, store};

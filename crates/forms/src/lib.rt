@@ -1,5 +1,6 @@
 // The form that a closing bracket ends, and what the front of a top-level form says of it, by scans of the tokens.
 #![tactic(auto)]
+
 ghost use Rattle.std.specs.Prelude.{◌≡◌, ◌&&◌, ◌≤◌, eqb, length};
 ghost use Rattle.notation.specs.Words.{between};
 ghost use Rattle.notation.proofs.Lexing.{lex};

@@ -1,5 +1,6 @@
 // Making a network fresh.
 #![tactic(auto)]
+
 ghost use Rattle.std.specs.Prelude.{◌≡◌};
 ghost use Rattle.verdict.specs.Pair.{pair};
 ghost use Rattle.network.specs.Network.{fresh_block, fresh_call};

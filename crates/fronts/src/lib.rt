@@ -1,5 +1,6 @@
 // How far a word of a text, its bytes a..b, begins one that its place allows: what stands alone, a name to bind, a function or head.
 #![tactic(auto)]
+
 ghost use Rattle.std.specs.Prelude.{◌≡◌, [], ◌∷◌, ◌≤◌, length};
 ghost use Rattle.notation.specs.Words.{between, is_letter, is_digit, name_byte, operator};
 ghost use Rattle.fronts.specs.Fronts.{name_front, count_front, atom_front, equals_next, function_front};

@@ -2,6 +2,7 @@
 //
 // `here`: what a round reads, the device's cells but its messages, with the ages where those begin.
 #![tactic(auto)]
+
 ghost use Rattle.std.specs.Prelude.{◌≡◌, ◌+◌, ◌*◌, ◌<◌};
 ghost use Rattle.domain.specs.Held.{held};
 ghost use Rattle.domain.specs.Members.{bit};

@@ -1,5 +1,6 @@
 // Reads a node, kind by kind: the first of the refusals 1 to 5 that holds, 0 where none does, and the node.
 #![tactic(auto)]
+
 ghost use Rattle.std.specs.Prelude.{◌≡◌, Bool, List, ℕ, ◌<◌, ◌≤◌, length, get_or};
 ghost use Rattle.program.specs.Table.{node_limit};
 ghost use Rattle.shapes.specs.Shapes.{byte_values, no_item, operator_item, slot_item};

@@ -2,6 +2,7 @@
 //
 // `t`: a word a node. `st`: the state (crate apply). `env`: the parameters. `n`: the node.
 #![tactic(auto)]
+
 ghost use Rattle.std.specs.Prelude.{ℤ, List};
 ghost use Rattle.round.specs.Round.{eval};
 ghost use Rattle.words.specs.Trees.{tree_at};

@@ -1,5 +1,6 @@
 // The levels of the machine that reads a text, as numbers (specs/Levels): how a token moves a level, and the window of levels that a pass over the text holds.
 #![tactic(auto)]
+
 ghost use Rattle.std.specs.Prelude.{◌≡◌, ◌+◌, ◌≤◌, ◌<◌, length};
 ghost use Rattle.notation.specs.Words.{between};
 ghost use Rattle.lexemes.specs.Lexeme.{depth_by};

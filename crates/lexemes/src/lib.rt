@@ -1,5 +1,6 @@
 // The tokens of a text, one at a time: the next behind a place, the last before it.
 #![tactic(auto)]
+
 ghost use Rattle.std.specs.Prelude.{◌≡◌, reverse, ◌+◌, ◌-◌, ◌≤◌, ◌<◌, length, take, drop};
 ghost use Rattle.notation.specs.Text.{byte_kind};
 ghost use Rattle.lexemes.specs.Lexeme.{kind_of, leading, next_lexeme, last_lexeme, depth_by};

@@ -1,5 +1,6 @@
 // The lines that the replay prints, put one behind the other into a lent buffer.
 #![tactic(auto)]
+
 ghost use Rattle.std.specs.Prelude.{◌≡◌, ◌+◌, ◌*◌, ◌≤◌, length, nat_abs};
 ghost use Rattle.event.specs.Calls.{answer_width};
 ghost use Rattle.lines.specs.Text.{line_room, decimal, signed_text, line, lines, refused_line, Put, Begins};

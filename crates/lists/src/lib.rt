@@ -1,5 +1,6 @@
 // Lists of events as bytes: how many there are, or where the list is refused, and the event of a field. Each exactly as the crate event defines it.
 #![tactic(auto)]
+
 ghost use Rattle.std.specs.Prelude.{◌≡◌, ◌+◌, ◌≤◌, length, take, drop};
 ghost use Rattle.wire.specs.Wire.{fields_of};
 ghost use Rattle.program.specs.Tree.{signed};

@@ -1,5 +1,6 @@
 // Loads a program table: the fields of its bytes one after the other, each refused or taken into a table by value.
 #![tactic(auto)]
+
 ghost use Rattle.std.specs.Prelude.{◌≡◌, ◌≤◌};
 ghost use Rattle.program.specs.Table.{node_limit};
 ghost use Rattle.load.specs.Loads.{Loads};

@@ -1,5 +1,6 @@
 // A loaded node, and the bytes that one is read from.
 #![tactic(auto)]
+
 ghost use Rattle.std.specs.Prelude.{◌≡◌, get_or};
 ghost use Rattle.nodes.specs.Body.{no_node};
 

@@ -1,5 +1,6 @@
 // The nodes that a word names: how many operands it has, which they are. And what its form says besides.
 #![tactic(auto)]
+
 ghost use Rattle.std.specs.Prelude.{◌≡◌, ◌<◌};
 ghost use Rattle.bits.specs.Bits.{has_bit};
 ghost use Rattle.words.specs.Word.{form};

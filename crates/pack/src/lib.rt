@@ -1,5 +1,6 @@
 // A loaded table as words, and the lowest node whose sort is broken (refusal 7).
 #![tactic(auto)]
+
 ghost use Rattle.std.specs.Prelude.{◌≡◌, length, replicate};
 ghost use Rattle.program.specs.Table.{node_limit};
 ghost use Rattle.load.specs.Loads.{Good};

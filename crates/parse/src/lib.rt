@@ -1,6 +1,7 @@
 // Refusal 19: whether a text is in the grammar, and how much of it begins one that is. The machine that tells it has a stack as deep as the brackets nest; a pass over the text holds a
 // window of its levels, and there are as many passes as windows.
 #![tactic(auto)]
+
 ghost use Rattle.std.specs.Prelude.{◌≡◌, true, false, ◌&&◌, eqb};
 ghost use Rattle.notation.proofs.Machine.{run, start as outset};
 ghost use Rattle.notation.proofs.Lexing.{lex};

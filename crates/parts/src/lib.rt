@@ -1,5 +1,6 @@
 // The parts of a program's table, each appended to a buffer: the node of a word that stands alone, and the node of a form.
 #![tactic(auto)]
+
 ghost use Rattle.std.specs.Prelude.{◌≡◌, suc, ◌+◌, ◌-◌, ◌≤◌, length, take};
 ghost use Rattle.notation.specs.Words.{between, index_of, is_number};
 ghost use Rattle.notation.proofs.Lexing.{lex};

@@ -1,5 +1,6 @@
 // The events of a list that was read, done one after another on the network, with their answers.
 #![tactic(auto)]
+
 ghost use Rattle.std.specs.Prelude.{◌≡◌};
 ghost use Rattle.event.specs.Event.{read_list, entries_of};
 ghost use Rattle.verdict.specs.Pair.{pair};

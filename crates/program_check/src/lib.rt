@@ -1,5 +1,6 @@
 // The whole check of a program table, refusals 1 to 10, and its preparation for rounds: its words and masks.
 #![tactic(auto)]
+
 ghost use Rattle.std.specs.Prelude.{◌≡◌, max, ◌+◌, ◌<◌, ◌≤◌, length};
 ghost use Rattle.program.specs.Table.{node_limit};
 ghost use Rattle.shapes.specs.Shapes.{byte_values};

@@ -1,6 +1,7 @@
 // Gives the nodes of a checked table their quick forms, from the lowest up: an operator on two leaves, a fold by a definition that gives the lesser of its two arguments.
 // What a node stands for does not change, only the way the evaluator goes.
 #![tactic(auto)]
+
 ghost use Rattle.std.specs.Prelude.{◌≡◌, true, ◌+◌, ◌<◌, ◌≤◌, length};
 ghost use Rattle.program.specs.Table.{node_limit};
 ghost use Rattle.words.specs.Form.{if_form, leaf_forms, forms};

@@ -1,5 +1,6 @@
 // The refusals 1 to 5 of one field, in the order of their rows: the number of the first row that holds, 0 where none does.
 #![tactic(auto)]
+
 ghost use Rattle.std.specs.Prelude.{◌≡◌, ℕ, ◌<◌, ◌≤◌, length, get_or};
 ghost use Rattle.program.specs.Table.{node_limit};
 ghost use Rattle.shapes.specs.Shapes.{byte_values};

@@ -1,5 +1,6 @@
 // The variables of the reps that each node of a table of words has under it, noted once a node, from the lowest up.
 #![tactic(auto)]
+
 ghost use Rattle.std.specs.Prelude.{◌≡◌, true, ◌<◌, ◌≤◌, length, replicate};
 ghost use Rattle.program.specs.Table.{node_limit};
 ghost use Rattle.words.specs.Word.{word};

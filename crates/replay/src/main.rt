@@ -1,5 +1,6 @@
 // The replay of a shift: reads program.pf and events.pf in the current folder, and prints the answers or the refusal.
 #![tactic(auto)]
+
 ghost use Rattle.std.specs.Prelude.{◌≡◌, ◌+◌, ◌≤◌, length};
 ghost use Rattle.files.specs.Whole.{Shorter};
 ghost use Rattle.io.specs.Counts.{IsPrefixLen};

@@ -1,5 +1,6 @@
 // The network's soundness test. Devices, rows and slots are counted from 0 here.
 #![tactic(auto)]
+
 ghost use Rattle.std.specs.Prelude.{◌≡◌, true, ◌+◌, ◌*◌, ◌≤◌, ◌<◌, length};
 ghost use Rattle.verdict.specs.Pair.{pair};
 ghost use Rattle.network.specs.Network.{block_size, network_size, lowest_unsound, soundness};

@@ -1,6 +1,7 @@
 // Whether the trees of a table read only parameters and variables that they may. What each node's tree reads is noted
 // once, from the lowest node up: a quick pass, in which no tree is walked.
 #![tactic(auto)]
+
 ghost use Rattle.std.specs.Prelude.{◌≡◌, true, ◌+◌, ◌<◌, ◌≤◌, get_or, length};
 ghost use Rattle.program.specs.Table.{node_limit};
 ghost use Rattle.operands.specs.Formed.{width, operand as operand_at, AllFormed};

@@ -1,5 +1,6 @@
 // The lowest node that offends: by a parameter or variable that it may not read, by its use of a definition.
 #![tactic(auto)]
+
 ghost use Rattle.std.specs.Prelude.{◌≡◌, false, ◌||◌, min, ◌<◌, ◌≤◌};
 ghost use Rattle.program.specs.Table.{is_call, node_limit};
 ghost use Rattle.words.specs.Word.{word};

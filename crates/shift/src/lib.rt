@@ -1,5 +1,6 @@
 // A shift replayed: the text that a program and a list of events print, from a fresh network.
 #![tactic(auto)]
+
 ghost use Rattle.std.specs.Prelude.{◌≤◌, length};
 ghost use Rattle.lines.specs.Text.{Begins};
 ghost use Rattle.shift.specs.Replayed.{text_room, replayed};

@@ -1,6 +1,7 @@
 // Refusal 7: which of a node's children are fields, whether these are the sorts that its kind asks for, and the lowest node
 // that offends.
 #![tactic(auto)]
+
 ghost use Rattle.std.specs.Prelude.{◌≡◌, ◌||◌, ◌<◌};
 ghost use Rattle.program.specs.Table.{kind_count};
 ghost use Rattle.sorts.specs.Sorts.{differs, is_field_at, part_field, flags_in, broken_by, first_bad, lower_field, lowest_field};

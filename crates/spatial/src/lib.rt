@@ -1,5 +1,6 @@
 // Whether each node of a table of words is spatial, noted once a node, from the lowest up.
 #![tactic(auto)]
+
 ghost use Rattle.std.specs.Prelude.{◌≡◌, false, ◌<◌, ◌≤◌, length};
 ghost use Rattle.program.specs.Table.{node_limit};
 ghost use Rattle.words.specs.Form.{call_form};

@@ -1,5 +1,6 @@
 // The fields of a program's table, each appended to a buffer: a function writes from at on and returns the position past what it wrote.
 #![tactic(auto)]
+
 ghost use Rattle.std.specs.Prelude.{[], ◌∷◌, ◌+◌, ◌-◌, ◌/◌, ◌%◌, ◌<◌};
 ghost use Rattle.notation.specs.Words.{between};
 ghost use Rattle.program.specs.Table.{constant as a_constant};

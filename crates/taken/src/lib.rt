@@ -1,5 +1,6 @@
 // What is given and taken already: nodes that are named, slots and variables that a node has.
 #![tactic(auto)]
+
 ghost use Rattle.std.specs.Prelude.{◌≡◌, ◌&&◌, [], ◌∷◌, ◌≤◌, length, leb};
 ghost use Rattle.shapes.specs.Shapes.{byte_values};
 ghost use Rattle.program.specs.Table.{beyond, node_limit};

@@ -1,5 +1,6 @@
 // Programs as Proto text: the whole reader, refusals 19, 20, those of the table, 13.
 #![tactic(auto)]
+
 ghost use Rattle.std.specs.Prelude.{◌≡◌, ◌++◌, ◌≤◌, length, take, drop};
 ghost use Rattle.program.specs.Check.{check};
 ghost use Rattle.verdict.specs.Pair.{pair};

@@ -1,5 +1,6 @@
 // Scans of a text's tokens without a stack: where a token stands, the names that are given in a part, how many heads have a slot or are rep.
 #![tactic(auto)]
+
 ghost use Rattle.std.specs.Prelude.{◌≡◌, cond, ◌&&◌, ◌-◌, ◌≤◌, eqb, length, take};
 ghost use Rattle.notation.specs.Words.{between};
 ghost use Rattle.notation.proofs.Lexing.{lex};

@@ -1,5 +1,6 @@
 // The parts of a node's word: its form, its item (operator, parameter, variable or slot), the nodes that it names.
 #![tactic(auto)]
+
 ghost use Rattle.std.specs.Prelude.{◌≡◌};
 ghost use Rattle.words.specs.Word.{form, item, p1, p2, p3, p4, body, count, constant_of};
 

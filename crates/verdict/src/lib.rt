@@ -1,5 +1,6 @@
 // What every public call returns: the number of a refusal and its place. With number 0 the call did its work, and the place is 0, but for what reads a text: there it is the length of the table.
 #![tactic(auto)]
+
 ghost use Rattle.std.specs.Prelude.{◌≡◌};
 ghost use Rattle.verdict.specs.Pair.{pair};
 

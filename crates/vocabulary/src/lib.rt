@@ -1,5 +1,6 @@
 // A word of a text, its bytes a..b, as a number, and a token; whether two words are the same; the bits of a number.
 #![tactic(auto)]
+
 ghost use Rattle.std.specs.Prelude.{◌≡◌, true, ◌+◌, ◌≤◌, ◌<◌, length};
 ghost use Rattle.notation.specs.Words.{between, same_word, index_of, value_from, is_count, is_number, bits_of};
 ghost use Rattle.lexemes.specs.Lexeme.{token_by};

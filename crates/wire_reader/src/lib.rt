@@ -1,5 +1,6 @@
 // One field of a list: a tag byte, a length of two bytes (high first), a body.
 #![tactic(auto)]
+
 ghost use Rattle.std.specs.Prelude.{◌≡◌, [], ◌∷◌, ◌+◌, ◌*◌};
 ghost use Rattle.wire.specs.Wire.{big};
 ghost use Rattle.wire_reader.specs.Field.{field_at};

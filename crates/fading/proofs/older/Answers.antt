@@ -1,0 +1,36 @@
+-- `fading::older` meets its contract. Assumes nothing.
+use mathlib.Core.Path.{◌≡◌, sym, ap, ◌∙◌}
+use mathlib.Core.Bool.{false, not}
+use lib.Dec.{eqb}
+use lib.IntN.{pos, ◌+ℤ◌}
+use mir.Syntax.{w32}
+use mir.Val.{SFits, of_z}
+use mir.Facts.{to_z-of_z, sfits_lit}
+use borrow.Author.Tests.{eq-eqb, ne_eqb, not-true, not-false}
+use Rattle.arith.proofs.Signs.{same_bits, eq_z-no}
+use Rattle.number.specs.Number.{mark}
+use Rattle.round.specs.Round.{fades}
+use Rattle.fading.proofs.Ages.{fades-by, more-fits, absent, gone, grown}
+use Rattle.fading.proofs.older.Goals as goal
+
+fades-says : (c : tie.After-fades) → eqb c.fades.result 0 ≡ not (fades c.before.before.args.x)
+fades-says c = rw (to_z-of_z c.before.before.ranges.x) at c.fades.ensures
+
+stays : (c : tie.Else2) → fades c.before.before.before.args.x ≡ false
+stays c = not-true _ (sym (fades-says c.before) ∙ eq-eqb _ 0 c.if2.false)
+
+fits : (c : tie.Else2) → SFits w32 (c.before.before.before.args.x +ℤ pos 1)
+fits c = more-fits _ c.before.before.before.ranges.x (not-false _ (sym (fades-by c.before.before.before.args.x) ∙ stays c))
+
+pub returns-then-x-eq-MARK : goal.returns-then-x-eq-MARK
+returns-then-x-eq-MARK c = absent c.args.x (same_bits w32 _ _ c.ranges.x (sfits_lit tt) c.if-x-eq-MARK.true)
+
+pub returns-then-fades-ne0 : goal.returns-then-fades-ne0
+returns-then-fades-ne0 c = gone c.args.x (not-false _ (sym (fades-says c) ∙ ne_eqb _ 0 c.if-fades-ne0.true))
+
+pub overflow_add-result : goal.overflow_add-result
+overflow_add-result c = rw (to_z-of_z c.ranges.x) (fits c)
+
+pub returns : goal.returns
+returns c =
+    rw (to_z-of_z c.ranges.x) (to_z-of_z (fits c) ∙ grown c.args.x (eq_z-no c.args.x mark (λ e. c.if-x-eq-MARK.false (ap (of_z w32) e))) (stays c))

@@ -1,0 +1,81 @@
+-- `pack::pack` meets its contract. Assumes nothing.
+use Rattle.pack.proofs.Columns.{column-none, column-more}
+use Rattle.pack.proofs.Pass.{begins, fits, childless, childless-goes, operator, operator-goes, goes, packs}
+use Rattle.pack.specs.Packs.{kind_of, item_of}
+use native.Mathlib.Omega.{arith}
+use Prim.Native.Nat.{◌-◌}
+use mathlib.Core.Path.{◌≡◌}
+use mathlib.Core.Logic.{⊎_elim}
+use Rattle.pack.proofs.pack.Goals as goal
+
+pub clear-requires : goal.clear-requires
+clear-requires c = c.requires.1
+
+pub loop-i-init : goal.loop-i-init
+loop-i-init c =
+    let b3 = c in
+    let s = b3 in (begins s.args.t1 s.requires.0 c.clear.ensures, column-none kind_of s.args.t1 s.requires.2, column-none item_of s.args.t1 s.requires.3)
+
+pub bounds-t-i : goal.bounds-t-i
+bounds-t-i c = omega (arith, c.loop-i.invariant.0.upto)
+
+pub bounds-kinds-i : goal.bounds-kinds-i
+bounds-kinds-i c = omega (arith, c.loop-i.invariant.1.long)
+
+pub bounds-items-i : goal.bounds-items-i
+bounds-items-i c = omega (arith, c.loop-i.invariant.2.long)
+
+pub childless_word-requires : goal.childless_word-requires
+childless_word-requires c =
+    let b5 = c in
+    let l = b5 in childless l.before.before.before.before.args.t1 l.before.before.before.before.requires.0 l.loop.invariant.0 c.loop-i-test.true c.if-x-eq0.true
+
+pub bounds-ws-i : goal.bounds-ws-i
+bounds-ws-i c = omega (arith, c.loop-i.invariant.0.long)
+
+pub operator_word-requires : goal.operator_word-requires
+operator_word-requires c =
+    let b12 = c in
+    let l = b12 in operator l.before.before.before.before.args.t1 l.before.before.before.before.requires.0 l.loop.invariant.0 c.loop-i-test.true c.if-x-eq-OPERATOR.true
+
+pub bounds-ws-i-then-x-eq-OPERATOR : goal.bounds-ws-i-then-x-eq-OPERATOR
+bounds-ws-i-then-x-eq-OPERATOR c = omega (arith, c.loop-i.invariant.0.long)
+
+pub word_of-requires : goal.word_of-requires
+word_of-requires c =
+    let b10 = c in
+    let l = b10 in fits l.before.before.before.before.args.t1 l.before.before.before.before.requires.0 l.loop.i c.loop-i-test.true
+
+pub bounds-ws-i-else-x-eq-OPERATOR : goal.bounds-ws-i-else-x-eq-OPERATOR
+bounds-ws-i-else-x-eq-OPERATOR c = omega (arith, c.loop-i.invariant.0.long)
+
+pub overflow_cast-i : goal.overflow_cast-i
+overflow_cast-i c = omega arith
+
+pub broken-requires : goal.broken-requires
+broken-requires c =
+    let b11 = c in
+    let l = b11 in (fits l.before.before.before.before.args.t1 l.before.before.before.before.requires.0 l.loop.i c.loop-i-test.true).kind
+
+pub loop-i-preserved : goal.loop-i-preserved
+loop-i-preserved c =
+    let t = c.args.t1 in
+    let g = c.requires.0 in
+    let s = c.loop-i.invariant in
+    let h = c.loop-i-test.true in (
+      ⊎_elim (λ w. rw (w.2, w.3) (childless-goes t g s.0 h w.0.taken w.1.ensures))
+          (λ v. ⊎_elim (λ w. rw (w.9, w.10) (operator-goes t g s.0 h w.2.taken w.4.ensures w.6.ensures w.7.ensures w.8.ensures))
+          (λ w. rw (w.9, w.10) (goes t g s.0 h w.4.ensures w.5.ensures w.6.ensures w.7.ensures w.8.ensures)) v) c.if-x-eq0.branch,
+      column-more kind_of t (omega arith) s.1,
+      column-more item_of t (omega arith) s.2,
+    )
+
+pub returns : goal.returns
+returns c =
+    let t = c.args.t1 in
+    let e : c.loop-i.i ≡ t.n = omega (arith, c.loop-i.invariant.0.upto, c.loop-i-test.false) in (
+      packs t c.requires.0 (rw e at c.loop-i.invariant.0) (t.defs - 0) c.lower_field.ensures (omega arith) c.lowest_field.ensures,
+      rw e at
+          c.loop-i.invariant.1,
+      rw e at c.loop-i.invariant.2,
+    )
