@@ -7,11 +7,10 @@ use Rattle.event.specs.Step.{digit_set}
 use Rattle.effects.proofs.Digit.{bit_is, bit-top, at_most, set_is, set_below}
 use Rattle.effects.proofs.digit_set.Goals as goal
 
--- `effects::digit_set` meets its contract. Assumes nothing.
-bit : (c : tie.Start) → 1 * 2 ^ c.args.s % 4294967296 ≡ 2 ^ c.args.s
+bit : (c : goal.Start) → 1 * 2 ^ c.args.s % 4294967296 ≡ 2 ^ c.args.s
 bit c = bit_is c.args.s c.args.v c.args.x c.requires.1 c.requires.2
 
-sum : (c : tie.Start) → digit_set c.args.s c.args.v c.args.x + c.args.x / 2 ^ c.args.s % 2 * 2 ^ c.args.s ≡ c.args.x + c.args.v * 2 ^ c.args.s
+sum : (c : goal.Start) → digit_set c.args.s c.args.v c.args.x + c.args.x / 2 ^ c.args.s % 2 * 2 ^ c.args.s ≡ c.args.x + c.args.v * 2 ^ c.args.s
 sum c = set_is c.args.s c.args.v c.args.x c.requires.1 c.requires.2
 
 pub overflow_mul-result : goal.overflow_mul-result

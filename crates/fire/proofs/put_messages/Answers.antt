@@ -16,10 +16,10 @@ use Rattle.fire.proofs.Rounds.{sent-length, idle-behind}
 use Rattle.fire.proofs.put_messages.Goals as goal
 
 -- the message to each device, and its length
-abbrev messages : tie.Start invariant-loop decreases-loop → ℕ → List ℤ
+abbrev messages : goal.Start → ℕ → List ℤ
 messages s = message s.args.here.now (state_of s.args.st.now)
 
-row_of : (s : tie.Start invariant-loop decreases-loop) (b : ℕ) → length (messages s b) ≡ 16
+row_of : (s : goal.Start) (b : ℕ) → length (messages s b) ≡ 16
 row_of s b = message-length s.args.here.now (state_of s.args.st.now) b (sent-length s.args.st.now s.requires.1)
 
 pub loop-b-init : goal.loop-b-init
@@ -28,14 +28,14 @@ loop-b-init c = (omega arith, refl, none_yet _ _)
 
 pub put_message-requires : goal.put_message-requires
 put_message-requires c =
-    let s = c in
+    let s = c.before.before.before in
     let l = c.loop-b in
     let k = joined_length (messages s) 16 1 l.b (λ j _. row_of s (1 + j)) in
-    (search rules, search rules, search rules, idle-behind _ _ _ c.args.at (c.args.at + 16 * l.b) l.invariant.2.is (omega (arith, k)) (c.requires.2 l.b (omega arith)))
+    (search rules, search rules, search rules, idle-behind _ _ _ s.args.at (s.args.at + 16 * l.b) l.invariant.2.is (omega (arith, k)) (s.requires.2 l.b (omega arith)))
 
 pub loop-b-preserved : goal.loop-b-preserved
 loop-b-preserved c =
-    let s = c in
+    let s = c.before.before.before.before.before in
     let l = c.loop-b in
     let f = messages s in
     let e = c.put_message.ensures in (

@@ -16,8 +16,8 @@ use Rattle.heard.proofs.Fields.{cell_at, measure_at, measured-field, measure-the
 use Rattle.heard.proofs.measured.Goals as goal
 
 -- the measure's cell is one of those that the round reads
-there : (c : tie.After-v invariant-loop decreases-loop) → c.before.before.before.args.from + c.before.before.before.args.by * c.before.before.loop.b < own_size
-there c = measure-there _ _ _ _ c.before.loop-test.true c.before.before.before.requires.1
+there : (c : goal.After-v-1) → c.args.from + c.args.by * c.loop-b.b < own_size
+there c = measure-there _ _ _ _ c.loop-b-test.true c.requires.1
 
 pub loop-b-init : goal.loop-b-init
 loop-b-init c = (

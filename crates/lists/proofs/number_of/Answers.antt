@@ -7,8 +7,7 @@ use mir.Facts.{to_z_pos, to_z-of_z}
 use Rattle.lists.proofs.Bytes.{below_none, fits_below}
 use Rattle.lists.proofs.number_of.Goals as goal
 
--- `lists::number_of` meets its contract. Assumes nothing.
-lowered : (c : tie.Else1) → 4294967295 - c.before.args.w < 2147483648
+lowered : (c : goal.Else-w-lt2147483648) → 4294967295 - c.args.w < 2147483648
 lowered c = omega arith
 
 pub overflow_sub-result-else-w-lt2147483648 : goal.overflow_sub-result-else-w-lt2147483648

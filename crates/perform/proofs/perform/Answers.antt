@@ -15,30 +15,30 @@ use Rattle.perform.proofs.Laws.{begin, end-turn, not-cut, has_cells, next-turn}
 use Rattle.perform.proofs.perform.Goals as goal
 
 -- the field that was read is the whole one that the pattern binds; its places, and room for its answer
-whole-at : (c : tie.After-known-told invariant-loop decreases-loop) → field_at c.before.before.before.before.before.before.before.args.list.now
-    c.before.before.before.before.before.loop.at ≡ Whole c.before.f.given.0.0 c.before.f.given.0.1.0 c.before.f.given.0.1.1.0
-    c.before.f.given.0.1.1.1.0
-whole-at c = sym c.before.before.before.read-field.ensures ∙ c.before.f.given.1
+whole-at : (c : goal.In-Whole) → field_at c.args.list.now
+    c.loop-at.at ≡ Whole c.f-1.tag c.f-1.start c.f-1.len
+    c.f-1.next
+whole-at c = sym c.read_field-f.ensures ∙ c.f-1.is
 
-place : (c : tie.After-known-told invariant-loop decreases-loop) → Placed c.before.before.before.before.before.before.before.args.list.now
-    c.before.before.before.before.before.loop.at c.before.f.given.0.1.0 c.before.f.given.0.1.1.0 c.before.f.given.0.1.1.1.0
+place : (c : goal.In-Whole) → Placed c.args.list.now
+    c.loop-at.at c.f-1.start c.f-1.len c.f-1.next
 place c = placed _ _ (whole-at c)
 
-cells_at : (c : tie.After-known-told invariant-loop decreases-loop) → answer_width * c.before.before.before.before.before.loop.k + answer_width ≤ length c.before.before.before.before.before.loop.space
-cells_at c = has_cells c.before.before.before.before.before.loop.invariant (whole-at c)
+cells_at : (c : goal.In-Whole) → answer_width * c.loop-at.k + answer_width ≤ length c.loop-at.space
+cells_at c = has_cells c.loop-at.invariant (whole-at c)
 
 -- where the field was read of an event that was done
-abbrev read_of : tie.After-struct-told2 invariant-loop decreases-loop → tie.After-known-told invariant-loop decreases-loop
+abbrev read_of : goal.After-struct_told-in-loop-at-1 → goal.In-Whole
 read_of c = c.before.before.before.before.before.before.before
 
-abbrev turn : tie.After-known-told invariant-loop decreases-loop → tie.In-loop invariant-loop decreases-loop
+abbrev turn : goal.In-Whole → goal.In-loop-at
 turn c = c.before.before.before.before
 
 pub loop-at-init : goal.loop-at-init
 loop-at-init c = begin c.requires
 
 pub shape_of-net-in_default : goal.shape_of-net-in_default
-shape_of-net-in_default c = c.loop-at.invariant.whole ∙ sym c.requires.ready.whole
+shape_of-net-in_default c = let m = c.before.before.before.before in m.loop-at.invariant.whole ∙ sym m.requires.ready.whole
 
 pub shape_of-space-in_default : goal.shape_of-space-in_default
 shape_of-space-in_default c = c.loop-at.invariant.wide
@@ -46,16 +46,18 @@ shape_of-space-in_default c = c.loop-at.invariant.wide
 -- no list that was read is cut short
 pub returns-in_default : goal.returns-in_default
 returns-in_default c =
-    let e = sym c.read_field-f.ensures in
-    ⊎_elim (λ q. absurd (not-cut c.loop-at.invariant (e ∙ q))) (λ q. absurd (before-end c.args.list.now c.loop-at.at c.loop-at-test.true (e ∙ q)))
-    (not-whole _ c.in_default.in_default-own.keys2)
+    let m = c.before in
+    let g = m.before.before in
+    let e = sym m.read_field-f.ensures in
+    ⊎_elim (λ q. absurd (not-cut g.loop-at.invariant (e ∙ q))) (λ q. absurd (before-end g.args.list.now g.loop-at.at g.loop-at-test.true (e ∙ q)))
+    (not-whole _ m.in_default.in_default-own.keys2)
 
 pub event_of-e-requires : goal.event_of-e-requires
 event_of-e-requires c = let p = place c in omega arith
 
 pub do_event-r-requires : goal.do_event-r-requires
 do_event-r-requires c =
-    let l = (turn c).before in
+    let l = (turn c.before.before.before).before in
     let r = l.before.before.pre.ready in
     (record { whole = l.loop.inv.whole; idle = l.loop.inv.idle; sound = r.sound; inside = r.inside; sort = r.sort }, l.loop.inv.lit)
 
@@ -88,13 +90,14 @@ loop-at-smaller c = let p = place (read_of c) in omega (arith, (turn (read_of c)
 
 pub loop-at-preserved : goal.loop-at-preserved
 loop-at-preserved c =
-    let d = c.do_event-r in
-    let e = c.event_of-e in
+    let n = c.before.before in
+    let d = n.do_event-r in
+    let e = n.event_of-e in
     rw (to_z-of_z {z = d.result.code} (sfits_of c.struct_told-1.given.0.1), to_z-of_z {z = d.result.value} (sfits_of c.struct_told-in-loop-at-1.given.1.0.1))
-    (next-turn (turn (read_of c)).before.loop.inv (whole-at (read_of c)) e.result d.result _ c.net-1.given e.ensures d.ensures)
+    (next-turn (turn (read_of c)).before.loop.inv (whole-at (read_of c)) e.result d.result _ n.net-1.given e.ensures d.ensures)
 
 pub shape_of-net : goal.shape_of-net
-shape_of-net c = c.loop-at.invariant.whole ∙ sym c.requires.ready.whole
+shape_of-net c = let m = c.before.before in m.loop-at.invariant.whole ∙ sym m.requires.ready.whole
 
 pub shape_of-space : goal.shape_of-space
 shape_of-space c = c.loop-at.invariant.wide
