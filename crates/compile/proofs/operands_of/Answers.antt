@@ -7,11 +7,7 @@ use Rattle.tabling.specs.Emit.{leads}
 use Rattle.compile.proofs.Leads.{other-lead, rep-lead, fold-lead}
 use Rattle.compile.proofs.operands_of.Goals as goal
 
-lead : (c : goal.After-below) → leads (head_by_code c.args.k) ≡ c.match-k.lead
-lead c =
-    ⊎_elim (λ x. ap (λ (k : ℕ). leads (head_by_code k)) x.0.keys1 ∙ rep-lead ∙ sym x.1)
-    (⊎_elim (λ x. ap (λ (k : ℕ). leads (head_by_code k)) x.0.keys2 ∙ fold-lead ∙ sym x.1)
-    (λ x. other-lead c.args.k x.0.rest.0.1 x.0.rest.1 ∙ sym x.1)) c.match-k.branch
-
 pub returns : goal.returns
-returns c = c.below.ensures ∙ sym (ap (λ (n : ℕ). c.args.items - n) (lead c))
+returns c =
+    let lead : leads (head_by_code c.args.k) ≡ c.match-k.lead = ⊎_elim (λ x. ap (λ (k : ℕ). leads (head_by_code k)) x.0.keys1 ∙ rep-lead ∙ sym x.1) (⊎_elim (λ x. ap (λ (k : ℕ). leads (head_by_code k)) x.0.keys2 ∙ fold-lead ∙ sym x.1) (λ x. other-lead c.args.k x.0.rest.0.1 x.0.rest.1 ∙ sym x.1)) c.match-k.branch in
+    c.below.ensures ∙ sym (ap (λ (n : ℕ). c.args.items - n) lead)

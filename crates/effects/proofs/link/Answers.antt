@@ -14,38 +14,41 @@ use Rattle.decide.proofs.Picks.{said-no, said-yes}
 use Rattle.effects.proofs.Refusals.{turned, carried-out, is-14, is-15, is-0}
 use Rattle.effects.proofs.link.Goals as goal
 
-two : (c : goal.Else-not-are_devices) → (is_device c.args.a && is_device c.args.b) ≡ true
-two c = said-yes c.are_devices.ensures c.if-not-are_devices.false-raw
-
-pair : (c : goal.Else-not-are_devices) → Pair c.args.a c.args.b
-pair c = pair_of _ _ (two c)
-
-distance-said : (c : goal.After-distance_sound) → c.distance_sound.result ≡ is_distance c.args.distance
-distance-said c = rw (to_z-of_z w32 c.args.distance c.ranges.distance) at c.distance_sound.ensures
-
-in-range : (c : goal.Else-not-distance_sound) → out_of_range (link c.args.a c.args.b c.args.distance) ≡ false
-in-range c = rw (two c.before.before, said-yes (distance-said c.before) c.if-not-distance_sound.false-raw)
-
 pub returns-then-not-are_devices : goal.returns-then-not-are_devices
 returns-then-not-are_devices c = turned _ _ _ 14 (is-14 _ _ (rw (said-no c.are_devices.ensures c.if-not-are_devices.true-raw))) (λ z. omega arith) c.answered.ensures
 
 pub returns-then-not-distance_sound : goal.returns-then-not-distance_sound
 returns-then-not-distance_sound c =
-    turned _ _ _ 14 (is-14 _ _ (rw (two c.before.before.before, said-no (distance-said c.before.before) c.if-not-distance_sound.true-raw))) (λ z. omega arith) c.answered-then-not-distance_sound.ensures
+    let two : (is_device c.args.a && is_device c.args.b) ≡ true = said-yes c.are_devices.ensures c.if-not-are_devices.false-raw in
+    let distance-said : c.distance_sound.result ≡ is_distance c.args.distance = rw (to_z-of_z w32 c.args.distance c.ranges.distance) at c.distance_sound.ensures in
+    turned _ _ _ 14 (is-14 _ _ (rw (two, said-no distance-said c.if-not-distance_sound.true-raw))) (λ z. omega arith) c.answered-then-not-distance_sound.ensures
 
 pub returns-then-a-b : goal.returns-then-a-b
-returns-then-a-b c = turned _ _ _ 15 (is-15 _ _ (in-range c.before.before) (eq-eqb _ _ c.if-a-b.true)) (λ z. omega arith) c.answered-then-a-b.ensures
+returns-then-a-b c =
+    let two : (is_device c.args.a && is_device c.args.b) ≡ true = said-yes c.are_devices.ensures c.if-not-are_devices.false-raw in
+    let distance-said : c.distance_sound.result ≡ is_distance c.args.distance = rw (to_z-of_z w32 c.args.distance c.ranges.distance) at c.distance_sound.ensures in
+    let in-range : out_of_range (link c.args.a c.args.b c.args.distance) ≡ false = rw (two, said-yes distance-said c.if-not-distance_sound.false-raw) in
+    turned _ _ _ 15 (is-15 _ _ in-range (eq-eqb _ _ c.if-a-b.true)) (λ z. omega arith) c.answered-then-a-b.ensures
 
 pub heard_from-at-requires : goal.heard_from-at-requires
-heard_from-at-requires c = let p = pair c.before.before.before in omega arith
+heard_from-at-requires c =
+    let two : (is_device c.args.a && is_device c.args.b) ≡ true = said-yes c.are_devices.ensures c.if-not-are_devices.false-raw in
+    let pair : Pair c.args.a c.args.b = pair_of _ _ two in
+    let p = pair in omega arith
 
 pub bounds-net-at : goal.bounds-net-at
-bounds-net-at c = let p = pair c.before.before.before.before in omega (arith, c.heard_from-at.ensures)
+bounds-net-at c =
+    let two : (is_device c.args.a && is_device c.args.b) ≡ true = said-yes c.are_devices.ensures c.if-not-are_devices.false-raw in
+    let pair : Pair c.args.a c.args.b = pair_of _ _ two in
+    let p = pair in omega (arith, c.heard_from-at.ensures)
 
 pub returns : goal.returns
 returns c =
+    let two : (is_device c.args.a && is_device c.args.b) ≡ true = said-yes c.are_devices.ensures c.if-not-are_devices.false-raw in
+    let distance-said : c.distance_sound.result ≡ is_distance c.args.distance = rw (to_z-of_z w32 c.args.distance c.ranges.distance) at c.distance_sound.ensures in
+    let in-range : out_of_range (link c.args.a c.args.b c.args.distance) ≡ false = rw (two, said-yes distance-said c.if-not-distance_sound.false-raw) in
     let s = c.before.before.before.before.before.before.before in
-    carried-out _ _ _ _ (is-0 _ _ (in-range c.before.before.before) (ne_eqb _ _ c.if-a-b.false) refl)
+    carried-out _ _ _ _ (is-0 _ _ in-range (ne_eqb _ _ c.if-a-b.false) refl)
     (λ main. rw (c.heard_from-at.ensures, to_z-of_z w32 s.args.distance s.ranges.distance)
     (store-one s.args.net.now (heard_from s.args.a s.args.b) s.args.distance))
     (λ main. c.answered-2.ensures)

@@ -20,28 +20,23 @@ use Rattle.fire.proofs.Rounds.{unlinked, linked}
 use borrow.Author.Rules.{sfits_of}
 use Rattle.fire.proofs.put_message.Goals as goal
 
--- without a link
-no-link : (c : goal.Then-here-b) → message c.args.here.now (state_of c.args.st.now) (1 + c.args.b) ≡ no_message
-no-link c =
-    let s = c.before.before in
-    let d = get_or s.args.here.now (heard_at 1 + 16 * s.args.b) (pos 0) in
-    unlinked s.args.here.now (state_of s.args.st.now) s.args.b (same_bits w32 d mark (sfits_of c.t11-1.given) (sfits_lit tt) c.if-here-b.true)
-
 pub returns-then-net-at-ne0 : goal.returns-then-net-at-ne0
 returns-then-net-at-ne0 c =
+    let no-link : message c.args.here.now (state_of c.args.st.now) (1 + c.args.b) ≡ no_message = (let s = c.before.before in let d = get_or s.args.here.now (heard_at 1 + 16 * s.args.b) (pos 0) in unlinked s.args.here.now (state_of s.args.st.now) s.args.b (same_bits w32 d mark (sfits_of c.t11-1.given) (sfits_lit tt) c.if-here-b.true)) in
     let t = c.before.before.before.before.before in
     let s = t.before.before in
-    c.no_message.ensures ∙ ap (store s.args.net.now s.args.at) (sym (no-link t))
+    c.no_message.ensures ∙ ap (store s.args.net.now s.args.at) (sym no-link)
 
 -- what is there already
 pub returns-else-net-at-ne0 : goal.returns-else-net-at-ne0
 returns-else-net-at-ne0 c =
+    let no-link : message c.args.here.now (state_of c.args.st.now) (1 + c.args.b) ≡ no_message = (let s = c.before.before in let d = get_or s.args.here.now (heard_at 1 + 16 * s.args.b) (pos 0) in unlinked s.args.here.now (state_of s.args.st.now) s.args.b (same_bits w32 d mark (sfits_of c.t11-1.given) (sfits_lit tt) c.if-here-b.true)) in
     let t = c.before.before in
     let s = t.before.before in
     let n = s.args.net.now in
     let e : get_or n s.args.at (pos 0) ≡ pos 0 = same_bits w32 (get_or n s.args.at (pos 0)) (pos 0) (sfits_of c.t15-1.given) (sfits_lit tt) c.if-net-at-ne0.false in
     let i = s.requires.3 (row_first n s.args.at 16 (pos 0) (omega arith) ∙ e) in
-    sym (store-row n s.args.at 16) ∙ ap (store n s.args.at) (i ∙ sym (no-link t))
+    sym (store-row n s.args.at 16) ∙ ap (store n s.args.at) (i ∙ sym no-link)
 
 pub returns : goal.returns
 unfolding state_of

@@ -10,16 +10,6 @@ use Rattle.wire_reader.proofs.Laws.{Placed, placed, before-end}
 use Rattle.lists.proofs.Turns.{begin, end-turn, cut-turn, bad-turn, next-turn, not-whole}
 use Rattle.lists.proofs.count_events.Goals as goal
 
--- the field that was read is the whole one that the pattern binds
-whole-at : (c : goal.In-Whole) → field_at c.args.s.now
-    c.loop-at.at ≡ Whole c.f-1.tag c.f-1.start c.f-1.len
-    c.f-1.next
-whole-at c = sym c.read_field-f.ensures ∙ c.f-1.is
-
-place : (c : goal.In-Whole) → Placed c.args.s.now
-    c.loop-at.at c.f-1.start c.f-1.len c.f-1.next
-place c = placed _ _ (whole-at c)
-
 pub loop-at-init : goal.loop-at-init
 loop-at-init c = begin _
 
@@ -35,18 +25,27 @@ returns-in_default c =
 
 pub returns-then-not-is_event : goal.returns-then-not-is_event
 returns-then-not-is_event c =
+    let whole-at : field_at c.args.s.now c.loop-at.at ≡ Whole c.f-1.tag c.f-1.start c.f-1.len c.f-1.next = sym c.read_field-f.ensures ∙ c.f-1.is in
     let t = c.before in
     c.refused-then-not-is_event.ensures
-    ∙ bad-turn _ _ _ t.loop-at.invariant _ _ _ _ (whole-at t.before.before) (said-no t.is_event.ensures t.if-not-is_event.true-raw)
+    ∙ bad-turn _ _ _ t.loop-at.invariant _ _ _ _ whole-at (said-no t.is_event.ensures t.if-not-is_event.true-raw)
 
 pub overflow_add-n : goal.overflow_add-n
-overflow_add-n c = let p = place c.before.before in omega (arith, c.loop-at.invariant.passed)
+overflow_add-n c =
+    let whole-at : field_at c.args.s.now c.loop-at.at ≡ Whole c.f-1.tag c.f-1.start c.f-1.len c.f-1.next = sym c.read_field-f.ensures ∙ c.f-1.is in
+    let place : Placed c.args.s.now c.loop-at.at c.f-1.start c.f-1.len c.f-1.next = placed _ _ whole-at in
+    let p = place in omega (arith, c.loop-at.invariant.passed)
 
 pub loop-at-smaller : goal.loop-at-smaller
-loop-at-smaller c = let p = place c.before.before in omega (arith, c.loop-at-test.true)
+loop-at-smaller c =
+    let whole-at : field_at c.args.s.now c.loop-at.at ≡ Whole c.f-1.tag c.f-1.start c.f-1.len c.f-1.next = sym c.read_field-f.ensures ∙ c.f-1.is in
+    let place : Placed c.args.s.now c.loop-at.at c.f-1.start c.f-1.len c.f-1.next = placed _ _ whole-at in
+    let p = place in omega (arith, c.loop-at-test.true)
 
 pub loop-at-preserved : goal.loop-at-preserved
-loop-at-preserved c = next-turn _ _ _ c.loop-at.invariant _ _ _ _ (whole-at c.before.before) (said-yes c.is_event.ensures c.if-not-is_event.false-raw)
+loop-at-preserved c =
+    let whole-at : field_at c.args.s.now c.loop-at.at ≡ Whole c.f-1.tag c.f-1.start c.f-1.len c.f-1.next = sym c.read_field-f.ensures ∙ c.f-1.is in
+    next-turn _ _ _ c.loop-at.invariant _ _ _ _ whole-at (said-yes c.is_event.ensures c.if-not-is_event.false-raw)
 
 pub returns : goal.returns
 returns c = c.all_read.ensures ∙ end-turn _ _ _ c.loop-at.invariant c.loop-at-test.false

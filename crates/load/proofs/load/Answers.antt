@@ -9,17 +9,6 @@ use Rattle.wire_reader.proofs.Laws.{placed, Placed}
 use Rattle.load.proofs.Turns.{begin, end-turn, broken-turn, node-refused, nodes-room, node-turn, root-refused, ends-turn, defs-room, define-turn}
 use Rattle.load.proofs.load.Goals as goal
 
--- the field that was read is the whole one that the pattern binds
-found : (c : goal.In-Whole)
-    → field_at c.args.s.now c.loop-at.at
-    ≡ Whole c.f-1.tag c.f-1.start c.f-1.len c.f-1.next
-found c = sym c.read_field-f.ensures ∙ c.f-1.is
-
-where-is : (c : goal.In-Whole)
-    → Placed c.args.s.now c.loop-at.at c.f-1.start
-    c.f-1.len c.f-1.next
-where-is c = placed _ _ (found c)
-
 -- ? no goal for this
 -- part-b-start : tie.Need-slice-bounds-b-start invariant-loop decreases-loop
 -- part-b-start c = let p = where-is c in omega arith
@@ -41,7 +30,10 @@ returns-in_default c =
     rw c.refuse.ensures (broken-turn _ _ _ _ b4.loop-at.invariant c.read_field-f.ensures c.in_default.in_default-own.keys2 b3.loop-at-test.true)
 
 pub slice_bounds-b-count : goal.slice_bounds-b-count
-slice_bounds-b-count c = let p = where-is c in omega arith
+slice_bounds-b-count c =
+    let found : field_at c.args.s.now c.loop-at.at ≡ Whole c.f-1.tag c.f-1.start c.f-1.len c.f-1.next = sym c.read_field-f.ensures ∙ c.f-1.is in
+    let where-is : Placed c.args.s.now c.loop-at.at c.f-1.start c.f-1.len c.f-1.next = placed _ _ found in
+    let p = where-is in omega arith
 
 pub read_node-r-requires : goal.read_node-r-requires
 read_node-r-requires c =
@@ -50,71 +42,83 @@ read_node-r-requires c =
 
 pub returns-then-r-ne0 : goal.returns-then-r-ne0
 returns-then-r-ne0 c =
+    let found : field_at c.args.s.now c.loop-at.at ≡ Whole c.f-1.tag c.f-1.start c.f-1.len c.f-1.next = sym c.read_field-f.ensures ∙ c.f-1.is in
     let b3 = c.before.before.before in
     let b8 = b3.before.before.before.before.before in
     let b10 = b8.before.before in
     let b15 = b10.before.before.before.before.before in
-    rw c.refuse-then-r-ne0.ensures (node-refused _ _ _ _ b15.loop-at.invariant _ _ _ _ _ (found (b10)) refl b8.if-tag-eq1.true b3.read_node-r.ensures c.if-r-ne0.true)
+    rw c.refuse-then-r-ne0.ensures (node-refused _ _ _ _ b15.loop-at.invariant _ _ _ _ _ found refl b8.if-tag-eq1.true b3.read_node-r.ensures c.if-r-ne0.true)
 
 pub offset_bounds-nodes-n : goal.offset_bounds-nodes-n
 offset_bounds-nodes-n c =
+    let found : field_at c.args.s.now c.loop-at.at ≡ Whole c.f-1.tag c.f-1.start c.f-1.len c.f-1.next = sym c.read_field-f.ensures ∙ c.f-1.is in
     let b3 = c.before.before.before in
     let b8 = b3.before.before.before.before.before in
     let b10 = b8.before.before in
     let b15 = b10.before.before.before.before.before in
-    let p : b15.loop-at.n < node_limit = nodes-room _ _ _ _ b15.loop-at.invariant _ _ _ _ _ (found (b10)) refl b8.if-tag-eq1.true b3.read_node-r.ensures c.if-r-ne0.false in omega
+    let p : b15.loop-at.n < node_limit = nodes-room _ _ _ _ b15.loop-at.invariant _ _ _ _ _ found refl b8.if-tag-eq1.true b3.read_node-r.ensures c.if-r-ne0.false in omega
     (arith, b15.loop-at.invariant.state.good.long_nodes)
 
 pub bounds-nodes-n : goal.bounds-nodes-n
 bounds-nodes-n c =
+    let found : field_at c.args.s.now c.loop-at.at ≡ Whole c.f-1.tag c.f-1.start c.f-1.len c.f-1.next = sym c.read_field-f.ensures ∙ c.f-1.is in
     let b3 = c.before.before.before in
     let b8 = b3.before.before.before.before.before in
     let b10 = b8.before.before in
     let b15 = b10.before.before.before.before.before in
-    let p : b15.loop-at.n < node_limit = nodes-room _ _ _ _ b15.loop-at.invariant _ _ _ _ _ (found (b10)) refl b8.if-tag-eq1.true b3.read_node-r.ensures c.if-r-ne0.false in omega
+    let p : b15.loop-at.n < node_limit = nodes-room _ _ _ _ b15.loop-at.invariant _ _ _ _ _ found refl b8.if-tag-eq1.true b3.read_node-r.ensures c.if-r-ne0.false in omega
     (arith, b15.loop-at.invariant.state.good.long_nodes)
 
 pub overflow_add-n : goal.overflow_add-n
 overflow_add-n c =
+    let found : field_at c.args.s.now c.loop-at.at ≡ Whole c.f-1.tag c.f-1.start c.f-1.len c.f-1.next = sym c.read_field-f.ensures ∙ c.f-1.is in
     let b3 = c.before.before.before in
     let b8 = b3.before.before.before.before.before in
     let b10 = b8.before.before in
     let b15 = b10.before.before.before.before.before in
-    let p : b15.loop-at.n < node_limit = nodes-room _ _ _ _ b15.loop-at.invariant _ _ _ _ _ (found (b10)) refl b8.if-tag-eq1.true b3.read_node-r.ensures c.if-r-ne0.false in omega
+    let p : b15.loop-at.n < node_limit = nodes-room _ _ _ _ b15.loop-at.invariant _ _ _ _ _ found refl b8.if-tag-eq1.true b3.read_node-r.ensures c.if-r-ne0.false in omega
     (arith, b15.loop-at.invariant.state.good.long_nodes)
 
 pub loop-at-smaller-then-tag-eq1 : goal.loop-at-smaller-then-tag-eq1
 loop-at-smaller-then-tag-eq1 c =
+    let found : field_at c.args.s.now c.loop-at.at ≡ Whole c.f-1.tag c.f-1.start c.f-1.len c.f-1.next = sym c.read_field-f.ensures ∙ c.f-1.is in
+    let where-is : Placed c.args.s.now c.loop-at.at c.f-1.start c.f-1.len c.f-1.next = placed _ _ found in
     let b10 = c.before.before.before.before.before.before.before.before.before.before in
     let b14 = b10.before.before.before.before in
-    let p = where-is (b10) in omega (arith, b14.loop-at-test.true)
+    let p = where-is in omega (arith, b14.loop-at-test.true)
 
 pub loop-at-preserved-then-tag-eq1 : goal.loop-at-preserved-then-tag-eq1
 loop-at-preserved-then-tag-eq1 c =
+    let found : field_at c.args.s.now c.loop-at.at ≡ Whole c.f-1.tag c.f-1.start c.f-1.len c.f-1.next = sym c.read_field-f.ensures ∙ c.f-1.is in
     let b3 = c.before.before.before in
     let b8 = b3.before.before.before.before.before in
     let b10 = b8.before.before in
     let b15 = b10.before.before.before.before.before in
-    node-turn _ _ _ _ b15.loop-at.invariant _ _ _ _ _ (found (b10)) refl b8.if-tag-eq1.true b3.read_node-r.ensures c.if-r-ne0.false
+    node-turn _ _ _ _ b15.loop-at.invariant _ _ _ _ _ found refl b8.if-tag-eq1.true b3.read_node-r.ensures c.if-r-ne0.false
 
 pub root_number-e-requires : goal.root_number-e-requires
 root_number-e-requires c = (c.if-tag-eq1.false, c.loop-at.invariant.state.named.long)
 
 pub returns-then-e-ne0 : goal.returns-then-e-ne0
 returns-then-e-ne0 c =
+    let found : field_at c.args.s.now c.loop-at.at ≡ Whole c.f-1.tag c.f-1.start c.f-1.len c.f-1.next = sym c.read_field-f.ensures ∙ c.f-1.is in
     let b4 = c.before.before.before.before in
     let b6 = b4.before.before in
     let b11 = b6.before.before.before.before.before in
-    rw c.refuse-then-e-ne0.ensures (root-refused _ _ _ _ b11.loop-at.invariant _ _ _ _ _ (found (b6)) refl b4.if-tag-eq1.false c.root_number-e.ensures c.if-e-ne0.true)
+    rw c.refuse-then-e-ne0.ensures (root-refused _ _ _ _ b11.loop-at.invariant _ _ _ _ _ found refl b4.if-tag-eq1.false c.root_number-e.ensures c.if-e-ne0.true)
 
 pub overflow_sub-s : goal.overflow_sub-s
-overflow_sub-s c = let p = where-is c.before.before.before.before.before.before.before.before in omega arith
+overflow_sub-s c =
+    let found : field_at c.args.s.now c.loop-at.at ≡ Whole c.f-1.tag c.f-1.start c.f-1.len c.f-1.next = sym c.read_field-f.ensures ∙ c.f-1.is in
+    let where-is : Placed c.args.s.now c.loop-at.at c.f-1.start c.f-1.len c.f-1.next = placed _ _ found in
+    let p = where-is in omega arith
 
 pub ended-requires : goal.ended-requires
 ended-requires c = rw c.hold-t.ensures c.loop-at.invariant.state.good.n
 
 pub returns-then-tag-eq3 : goal.returns-then-tag-eq3
 returns-then-tag-eq3 c =
+    let found : field_at c.args.s.now c.loop-at.at ≡ Whole c.f-1.tag c.f-1.start c.f-1.len c.f-1.next = sym c.read_field-f.ensures ∙ c.f-1.is in
     let b3 = c.before.before.before in
     let b4 = b3.before in
     let b5 = b4.before in
@@ -122,52 +126,58 @@ returns-then-tag-eq3 c =
     let b8 = b6.before.before in
     let b10 = b8.before.before in
     let b15 = b10.before.before.before.before.before in
-    rw (c.ended.ensures, c.hold-t.ensures) (ends-turn _ _ _ _ b15.loop-at.invariant _ _ _ _ _ (found (b10)) refl b8.if-tag-eq1.false b6.root_number-e.ensures
+    rw (c.ended.ensures, c.hold-t.ensures) (ends-turn _ _ _ _ b15.loop-at.invariant _ _ _ _ _ found refl b8.if-tag-eq1.false b6.root_number-e.ensures
     b5.if-e-ne0.false b3.if-tag-eq3.true b4.get-first.ensures)
 
 pub bounds-counts-defs : goal.bounds-counts-defs
 bounds-counts-defs c =
+    let found : field_at c.args.s.now c.loop-at.at ≡ Whole c.f-1.tag c.f-1.start c.f-1.len c.f-1.next = sym c.read_field-f.ensures ∙ c.f-1.is in
     let b3 = c.before.before.before in
     let b5 = b3.before.before in
     let b7 = b5.before.before in
     let b12 = b7.before.before.before.before.before in
-    let p : b12.loop-at.defs < definition_limit = defs-room _ _ _ _ b12.loop-at.invariant _ _ _ _ _ (found (b7)) refl b5.if-tag-eq1.false b3.root_number-e.ensures
+    let p : b12.loop-at.defs < definition_limit = defs-room _ _ _ _ b12.loop-at.invariant _ _ _ _ _ found refl b5.if-tag-eq1.false b3.root_number-e.ensures
     c.if-e-ne0.false c.if-tag-eq3.false in omega (arith, b12.loop-at.invariant.state.good.long_counts, b12.loop-at.invariant.state.good.long_bodies)
 
 pub bounds-bodies-defs : goal.bounds-bodies-defs
 bounds-bodies-defs c =
+    let found : field_at c.args.s.now c.loop-at.at ≡ Whole c.f-1.tag c.f-1.start c.f-1.len c.f-1.next = sym c.read_field-f.ensures ∙ c.f-1.is in
     let b3 = c.before.before.before in
     let b4 = b3.before in
     let b6 = b4.before.before in
     let b8 = b6.before.before in
     let b13 = b8.before.before.before.before.before in
-    let p : b13.loop-at.defs < definition_limit = defs-room _ _ _ _ b13.loop-at.invariant _ _ _ _ _ (found (b8)) refl b6.if-tag-eq1.false b4.root_number-e.ensures b3.if-e-ne0.false
+    let p : b13.loop-at.defs < definition_limit = defs-room _ _ _ _ b13.loop-at.invariant _ _ _ _ _ found refl b6.if-tag-eq1.false b4.root_number-e.ensures b3.if-e-ne0.false
     c.if-tag-eq3.false in omega (arith, b13.loop-at.invariant.state.good.long_counts, b13.loop-at.invariant.state.good.long_bodies)
 
 pub overflow_add-defs : goal.overflow_add-defs
 overflow_add-defs c =
+    let found : field_at c.args.s.now c.loop-at.at ≡ Whole c.f-1.tag c.f-1.start c.f-1.len c.f-1.next = sym c.read_field-f.ensures ∙ c.f-1.is in
     let b3 = c.before.before.before in
     let b4 = b3.before in
     let b6 = b4.before.before in
     let b8 = b6.before.before in
     let b13 = b8.before.before.before.before.before in
-    let p : b13.loop-at.defs < definition_limit = defs-room _ _ _ _ b13.loop-at.invariant _ _ _ _ _ (found (b8)) refl b6.if-tag-eq1.false b4.root_number-e.ensures b3.if-e-ne0.false
+    let p : b13.loop-at.defs < definition_limit = defs-room _ _ _ _ b13.loop-at.invariant _ _ _ _ _ found refl b6.if-tag-eq1.false b4.root_number-e.ensures b3.if-e-ne0.false
     c.if-tag-eq3.false in omega (arith, b13.loop-at.invariant.state.good.long_counts, b13.loop-at.invariant.state.good.long_bodies)
 
 pub loop-at-smaller : goal.loop-at-smaller
 loop-at-smaller c =
+    let found : field_at c.args.s.now c.loop-at.at ≡ Whole c.f-1.tag c.f-1.start c.f-1.len c.f-1.next = sym c.read_field-f.ensures ∙ c.f-1.is in
+    let where-is : Placed c.args.s.now c.loop-at.at c.f-1.start c.f-1.len c.f-1.next = placed _ _ found in
     let b8 = c.before.before.before.before.before.before.before.before in
     let b12 = b8.before.before.before.before in
-    let p = where-is (b8) in omega (arith, b12.loop-at-test.true)
+    let p = where-is in omega (arith, b12.loop-at-test.true)
 
 pub loop-at-preserved : goal.loop-at-preserved
 loop-at-preserved c =
+    let found : field_at c.args.s.now c.loop-at.at ≡ Whole c.f-1.tag c.f-1.start c.f-1.len c.f-1.next = sym c.read_field-f.ensures ∙ c.f-1.is in
     let b3 = c.before.before.before in
     let b4 = b3.before in
     let b6 = b4.before.before in
     let b8 = b6.before.before in
     let b13 = b8.before.before.before.before.before in
-    define-turn _ _ _ _ b13.loop-at.invariant _ _ _ _ _ (found (b8)) refl b6.if-tag-eq1.false b4.root_number-e.ensures b3.if-e-ne0.false c.if-tag-eq3.false
+    define-turn _ _ _ _ b13.loop-at.invariant _ _ _ _ _ found refl b6.if-tag-eq1.false b4.root_number-e.ensures b3.if-e-ne0.false c.if-tag-eq3.false
     c.get-first.ensures c.get.ensures
 
 pub returns : goal.returns

@@ -14,31 +14,11 @@ use Rattle.lists.proofs.Turns.{not-whole}
 use Rattle.perform.proofs.Laws.{begin, end-turn, not-cut, has_cells, next-turn}
 use Rattle.perform.proofs.perform.Goals as goal
 
--- the field that was read is the whole one that the pattern binds; its places, and room for its answer
-whole-at : (c : goal.In-Whole) → field_at c.args.list.now
-    c.loop-at.at ≡ Whole c.f-1.tag c.f-1.start c.f-1.len
-    c.f-1.next
-whole-at c = sym c.read_field-f.ensures ∙ c.f-1.is
-
-place : (c : goal.In-Whole) → Placed c.args.list.now
-    c.loop-at.at c.f-1.start c.f-1.len c.f-1.next
-place c = placed _ _ (whole-at c)
-
-cells_at : (c : goal.In-Whole) → answer_width * c.loop-at.k + answer_width ≤ length c.loop-at.space
-cells_at c = has_cells c.loop-at.invariant (whole-at c)
-
--- where the field was read of an event that was done
-abbrev read_of : goal.After-struct_told-in-loop-at-1 → goal.In-Whole
-read_of c = c.before.before.before.before.before.before.before
-
-abbrev turn : goal.In-Whole → goal.In-loop-at
-turn c = c.before.before.before.before
-
 pub loop-at-init : goal.loop-at-init
 loop-at-init c = begin c.requires
 
 pub shape_of-net-in_default : goal.shape_of-net-in_default
-shape_of-net-in_default c = let m = c.before.before.before.before in m.loop-at.invariant.whole ∙ sym m.requires.ready.whole
+shape_of-net-in_default c = let m = c.before in m.loop-at.invariant.whole ∙ sym m.requires.ready.whole
 
 pub shape_of-space-in_default : goal.shape_of-space-in_default
 shape_of-space-in_default c = c.loop-at.invariant.wide
@@ -53,51 +33,82 @@ returns-in_default c =
     (not-whole _ m.in_default.in_default-own.keys2)
 
 pub event_of-e-requires : goal.event_of-e-requires
-event_of-e-requires c = let p = place c in omega arith
+event_of-e-requires c =
+    let whole-at : field_at c.args.list.now c.loop-at.at ≡ Whole c.f-1.tag c.f-1.start c.f-1.len c.f-1.next = sym c.read_field-f.ensures ∙ c.f-1.is in
+    let place : Placed c.args.list.now c.loop-at.at c.f-1.start c.f-1.len c.f-1.next = placed _ _ whole-at in
+    let p = place in omega arith
 
 pub do_event-r-requires : goal.do_event-r-requires
 do_event-r-requires c =
-    let l = (turn c.before.before.before).before in
-    let r = l.before.before.pre.ready in
-    (record { whole = l.loop.inv.whole; idle = l.loop.inv.idle; sound = r.sound; inside = r.inside; sort = r.sort }, l.loop.inv.lit)
+    let l = c.before in
+    let r = c.pre.ready in
+    (record { whole = l.loop-at.inv.whole; idle = l.loop-at.inv.idle; sound = r.sound; inside = r.inside; sort = r.sort }, l.loop-at.inv.lit)
 
 pub overflow_mul-code : goal.overflow_mul-code
-overflow_mul-code c = let h = cells_at (read_of c) in search rules
+overflow_mul-code c =
+    let whole-at : field_at c.args.list.now c.loop-at.at ≡ Whole c.f-1.tag c.f-1.start c.f-1.len c.f-1.next = sym c.read_field-f.ensures ∙ c.f-1.is in
+    let cells_at : answer_width * c.loop-at.k + answer_width ≤ length c.loop-at.space = has_cells c.loop-at.invariant whole-at in
+    let h = cells_at in search rules
 
 pub offset_bounds-space-k : goal.offset_bounds-space-k
-offset_bounds-space-k c = let h = cells_at (read_of c) in search rules
+offset_bounds-space-k c =
+    let whole-at : field_at c.args.list.now c.loop-at.at ≡ Whole c.f-1.tag c.f-1.start c.f-1.len c.f-1.next = sym c.read_field-f.ensures ∙ c.f-1.is in
+    let cells_at : answer_width * c.loop-at.k + answer_width ≤ length c.loop-at.space = has_cells c.loop-at.invariant whole-at in
+    let h = cells_at in search rules
 
 pub bounds-space-k : goal.bounds-space-k
-bounds-space-k c = let h = cells_at (read_of c) in search rules
+bounds-space-k c =
+    let whole-at : field_at c.args.list.now c.loop-at.at ≡ Whole c.f-1.tag c.f-1.start c.f-1.len c.f-1.next = sym c.read_field-f.ensures ∙ c.f-1.is in
+    let cells_at : answer_width * c.loop-at.k + answer_width ≤ length c.loop-at.space = has_cells c.loop-at.invariant whole-at in
+    let h = cells_at in search rules
 
 pub overflow_mul-value : goal.overflow_mul-value
-overflow_mul-value c = let h = cells_at (read_of c) in search rules
+overflow_mul-value c =
+    let whole-at : field_at c.args.list.now c.loop-at.at ≡ Whole c.f-1.tag c.f-1.start c.f-1.len c.f-1.next = sym c.read_field-f.ensures ∙ c.f-1.is in
+    let cells_at : answer_width * c.loop-at.k + answer_width ≤ length c.loop-at.space = has_cells c.loop-at.invariant whole-at in
+    let h = cells_at in search rules
 
 pub overflow_add-value : goal.overflow_add-value
-overflow_add-value c = let h = cells_at (read_of c) in search rules
+overflow_add-value c =
+    let whole-at : field_at c.args.list.now c.loop-at.at ≡ Whole c.f-1.tag c.f-1.start c.f-1.len c.f-1.next = sym c.read_field-f.ensures ∙ c.f-1.is in
+    let cells_at : answer_width * c.loop-at.k + answer_width ≤ length c.loop-at.space = has_cells c.loop-at.invariant whole-at in
+    let h = cells_at in search rules
 
 pub offset_bounds-space-k-in-loop-at : goal.offset_bounds-space-k-in-loop-at
-offset_bounds-space-k-in-loop-at c = let h = cells_at (read_of c) in search rules
+offset_bounds-space-k-in-loop-at c =
+    let whole-at : field_at c.args.list.now c.loop-at.at ≡ Whole c.f-1.tag c.f-1.start c.f-1.len c.f-1.next = sym c.read_field-f.ensures ∙ c.f-1.is in
+    let cells_at : answer_width * c.loop-at.k + answer_width ≤ length c.loop-at.space = has_cells c.loop-at.invariant whole-at in
+    let h = cells_at in search rules
 
 pub bounds-space-k-in-loop-at : goal.bounds-space-k-in-loop-at
-bounds-space-k-in-loop-at c = let h = cells_at (read_of c) in simp length-set (omega arith)
+bounds-space-k-in-loop-at c =
+    let whole-at : field_at c.args.list.now c.loop-at.at ≡ Whole c.f-1.tag c.f-1.start c.f-1.len c.f-1.next = sym c.read_field-f.ensures ∙ c.f-1.is in
+    let cells_at : answer_width * c.loop-at.k + answer_width ≤ length c.loop-at.space = has_cells c.loop-at.invariant whole-at in
+    let h = cells_at in simp length-set (omega arith)
 
 pub overflow_add-k : goal.overflow_add-k
-overflow_add-k c = let h = cells_at (read_of c) in search rules
+overflow_add-k c =
+    let whole-at : field_at c.args.list.now c.loop-at.at ≡ Whole c.f-1.tag c.f-1.start c.f-1.len c.f-1.next = sym c.read_field-f.ensures ∙ c.f-1.is in
+    let cells_at : answer_width * c.loop-at.k + answer_width ≤ length c.loop-at.space = has_cells c.loop-at.invariant whole-at in
+    let h = cells_at in search rules
 
 pub loop-at-smaller : goal.loop-at-smaller
-loop-at-smaller c = let p = place (read_of c) in omega (arith, (turn (read_of c)).loop-test.taken)
+loop-at-smaller c =
+    let whole-at : field_at c.args.list.now c.loop-at.at ≡ Whole c.f-1.tag c.f-1.start c.f-1.len c.f-1.next = sym c.read_field-f.ensures ∙ c.f-1.is in
+    let place : Placed c.args.list.now c.loop-at.at c.f-1.start c.f-1.len c.f-1.next = placed _ _ whole-at in
+    let p = place in omega (arith, c.loop-at-test.taken)
 
 pub loop-at-preserved : goal.loop-at-preserved
 loop-at-preserved c =
-    let n = c.before.before in
+    let whole-at : field_at c.args.list.now c.loop-at.at ≡ Whole c.f-1.tag c.f-1.start c.f-1.len c.f-1.next = sym c.read_field-f.ensures ∙ c.f-1.is in
+    let n = c.before in
     let d = n.do_event-r in
     let e = n.event_of-e in
     rw (to_z-of_z {z = d.result.code} (sfits_of c.struct_told-1.given.0.1), to_z-of_z {z = d.result.value} (sfits_of c.struct_told-in-loop-at-1.given.1.0.1))
-    (next-turn (turn (read_of c)).before.loop.inv (whole-at (read_of c)) e.result d.result _ n.net-1.given e.ensures d.ensures)
+    (next-turn c.loop-at.inv whole-at e.result d.result _ n.net-1.given e.ensures d.ensures)
 
 pub shape_of-net : goal.shape_of-net
-shape_of-net c = let m = c.before.before in m.loop-at.invariant.whole ∙ sym m.requires.ready.whole
+shape_of-net c = let m = c.before in m.loop-at.invariant.whole ∙ sym m.requires.ready.whole
 
 pub shape_of-space : goal.shape_of-space
 shape_of-space c = c.loop-at.invariant.wide
