@@ -54,11 +54,11 @@ no_message-requires c =
     let passes : refusal c.args.net.now (deliver c.args.a c.args.b) ≡ 0 = sym (ap (of_z w32) c.message_refusal-code.ensures) ∙ c.if-code-ne0.false in
     let two : Pair c.args.a c.args.b = two-devices _ _ _ passes in
     let p = two in
-    omega (arith, c.pending_to-at.ensures, length-set c.copy_row.new.0 c.age_of.result (pos 0))
+    omega (arith, c.pending_to-at.ensures, length-set c.copy_row.new.net c.age_of.result (pos 0))
 
 pub shape_of-net : goal.shape_of-net
 shape_of-net c =
-    let m = c.copy_row.new.0 in
+    let m = c.copy_row.new.net in
     c.net-2-1.given ∙ length-set m c.age_of.result (pos 0) ∙ c.net-1.given
 
 pub returns : goal.returns
@@ -69,7 +69,7 @@ returns c =
     let copied = age.before.before in
     let from = copied.before.before in
     let to = from.before in
-    let m = copied.copy_row.new.0 in
+    let m = copied.copy_row.new.net in
     carried-out _ _ _ _ passes
     (λ main. message.ensures ∙ rw (store-one m age.age_of.result (pos 0), copied.copy_row.ensures, age.age_of.ensures, from.heard_from-heard.ensures, to.pending_to-at.ensures))
     (λ main. c.answered-2.ensures)

@@ -40,7 +40,7 @@ pub returns-then-net-at-eq0 : goal.returns-then-net-at-eq0
 returns-then-net-at-eq0 c =
     let two : (is_device c.args.a && is_device c.args.b) ≡ true = said-yes c.are_devices.ensures c.if-not-are_devices.false-raw in
     let cell : ℤ = get_or c.args.net.now c.pending_to-at.result (pos 0) in
-    let z : cell ≡ pos 0 = sym (to_z-of_z (sfits_of c.t9-1.given)) ∙ ap (to_z w32) c.if-net-at-eq0.true in
+    let z : cell ≡ pos 0 = sym (to_z-of_z {w = w32} (sfits_of c.t9-1.given)) ∙ ap (to_z w32) c.if-net-at-eq0.true in
     ap pos (sym (is-16 _ _ (rw two) (ne_eqb _ _ c.if-a-b.false) (rw (← c.pending_to-at.ensures) (eq_z-yes _ _ z))))
 
 pub returns : goal.returns

@@ -38,8 +38,8 @@ own_cells-here-requires c =
 pub overflow_sub-result : goal.overflow_sub-result
 overflow_sub-result c =
     let v = c.evaluate-v in
-    let w = stopped _ _ v.new.1.1.1.0 [] v.ensures (λ q. c.if-f-ne0.true (ap (of_z w32) q)) in
-    node-fits (fault_of v.new.1.1.1.0) w.node (sfits_of c.f-1.given) w.says
+    let w = stopped _ _ v.new.st [] v.ensures (λ q. c.if-f-ne0.true (ap (of_z w32) q)) in
+    node-fits (fault_of v.new.st) w.node (sfits_of c.f-1.given) w.says
 
 pub returns-then-f-ne0 : goal.returns-then-f-ne0
 returns-then-f-ne0 c =
@@ -49,8 +49,8 @@ returns-then-f-ne0 c =
     let r = c.before in
     let v = r.evaluate-v in
     let e = c.own_cells-here.ensures in
-    fails _ _ _ whole-block _ e v.result _ v.new.1.1.1.0 _ in-range c.begin.ensures.state v.ensures (λ q. c.if-f-ne0.true (ap (of_z w32) q))
-    (λ k e. ap (λ (y : ℤ). (pos 17, y)) (node-read (fault_of v.new.1.1.1.0) k (sfits_of r.f-1.given) e))
+    fails _ _ _ whole-block _ e v.result _ v.new.st _ in-range c.begin.ensures.state v.ensures (λ q. c.if-f-ne0.true (ap (of_z w32) q))
+    (λ k e. ap (λ (y : ℤ). (pos 17, y)) (node-read (fault_of v.new.st) k (sfits_of r.f-1.given) e))
 
 pub put_round-requires : goal.put_round-requires
 put_round-requires c =
@@ -59,7 +59,7 @@ put_round-requires c =
     let g = c in
     let s = g.before.before in
     let p = near in
-    (omega arith, search rules, idle-rows s.args.net.now s.args.a c.pre.idle p.0 p.1)
+    (omega arith, search rules, idle-rows s.args.net.now s.args.a c.requires.idle p.0 p.1)
 
 pub returns : goal.returns
 returns c =
@@ -71,7 +71,7 @@ returns c =
     let r = g.before in
     let v = r.evaluate-v in
     let e = c.own_cells-here.ensures in
-    let st = v.new.1.1.1.0 in
+    let st = v.new.st in
     let k : length st ≡ state_size = search rules in
     fires _ _ _ whole-block _ e v.result _ st _ in-range c.begin.ensures.state v.ensures _
-    (clear st (sfits_of r.f-1.given) g.if-f-ne0.false) k c.put_round.ensures (ap (λ (y : ℤ). (pos 0, y)) (to_z-of_z (sfits_of v.type_inv)))
+    (clear st (sfits_of r.f-1.given) g.if-f-ne0.false) k c.put_round.ensures (ap (λ (y : ℤ). (pos 0, y)) (to_z-of_z {w = w32} (sfits_of v.type_inv)))

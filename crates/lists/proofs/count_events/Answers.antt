@@ -21,30 +21,30 @@ returns-in_default c =
     (λ e. cut-turn _ _ _ m.loop-at.invariant (sym m.read_field-f.ensures ∙ e))
     (λ e. absurd (before-end m.args.s.now m.loop-at.at m.loop-at-test.true
     (sym m.read_field-f.ensures ∙ e)))
-    (not-whole _ m.in_default.in_default-own.keys2)
+    (not-whole _ m.in_default.not-Whole)
 
 pub returns-then-not-is_event : goal.returns-then-not-is_event
 returns-then-not-is_event c =
-    let whole-at : field_at c.args.s.now c.loop-at.at ≡ Whole c.f-1.tag c.f-1.start c.f-1.len c.f-1.next = sym c.read_field-f.ensures ∙ c.f-1.is in
+    let whole-at : field_at c.args.s.now c.loop-at.at ≡ Whole c.in-Whole.tag c.in-Whole.start c.in-Whole.len c.in-Whole.next = sym c.read_field-f.ensures ∙ c.in-Whole.is in
     let t = c.before in
     c.refused-then-not-is_event.ensures
     ∙ bad-turn _ _ _ t.loop-at.invariant _ _ _ _ whole-at (said-no t.is_event.ensures t.if-not-is_event.true-raw)
 
 pub overflow_add-n : goal.overflow_add-n
 overflow_add-n c =
-    let whole-at : field_at c.args.s.now c.loop-at.at ≡ Whole c.f-1.tag c.f-1.start c.f-1.len c.f-1.next = sym c.read_field-f.ensures ∙ c.f-1.is in
-    let place : Placed c.args.s.now c.loop-at.at c.f-1.start c.f-1.len c.f-1.next = placed _ _ whole-at in
+    let whole-at : field_at c.args.s.now c.loop-at.at ≡ Whole c.in-Whole.tag c.in-Whole.start c.in-Whole.len c.in-Whole.next = sym c.read_field-f.ensures ∙ c.in-Whole.is in
+    let place : Placed c.args.s.now c.loop-at.at c.in-Whole.start c.in-Whole.len c.in-Whole.next = placed _ _ whole-at in
     let p = place in omega (arith, c.loop-at.invariant.passed)
 
 pub loop-at-smaller : goal.loop-at-smaller
 loop-at-smaller c =
-    let whole-at : field_at c.args.s.now c.loop-at.at ≡ Whole c.f-1.tag c.f-1.start c.f-1.len c.f-1.next = sym c.read_field-f.ensures ∙ c.f-1.is in
-    let place : Placed c.args.s.now c.loop-at.at c.f-1.start c.f-1.len c.f-1.next = placed _ _ whole-at in
+    let whole-at : field_at c.args.s.now c.loop-at.at ≡ Whole c.in-Whole.tag c.in-Whole.start c.in-Whole.len c.in-Whole.next = sym c.read_field-f.ensures ∙ c.in-Whole.is in
+    let place : Placed c.args.s.now c.loop-at.at c.in-Whole.start c.in-Whole.len c.in-Whole.next = placed _ _ whole-at in
     let p = place in omega (arith, c.loop-at-test.true)
 
 pub loop-at-preserved : goal.loop-at-preserved
 loop-at-preserved c =
-    let whole-at : field_at c.args.s.now c.loop-at.at ≡ Whole c.f-1.tag c.f-1.start c.f-1.len c.f-1.next = sym c.read_field-f.ensures ∙ c.f-1.is in
+    let whole-at : field_at c.args.s.now c.loop-at.at ≡ Whole c.in-Whole.tag c.in-Whole.start c.in-Whole.len c.in-Whole.next = sym c.read_field-f.ensures ∙ c.in-Whole.is in
     next-turn _ _ _ c.loop-at.invariant _ _ _ _ whole-at (said-yes c.is_event.ensures c.if-not-is_event.false-raw)
 
 pub returns : goal.returns

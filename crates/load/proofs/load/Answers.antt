@@ -27,12 +27,12 @@ pub returns-in_default : goal.returns-in_default
 returns-in_default c =
     let b3 = c.before.before.before in
     let b4 = b3.before in
-    rw c.refuse.ensures (broken-turn _ _ _ _ b4.loop-at.invariant c.read_field-f.ensures c.in_default.in_default-own.keys2 b3.loop-at-test.true)
+    rw c.refuse.ensures (broken-turn _ _ _ _ b4.loop-at.invariant c.read_field-f.ensures c.in_default.not-Whole b3.loop-at-test.true)
 
 pub slice_bounds-b-count : goal.slice_bounds-b-count
 slice_bounds-b-count c =
-    let found : field_at c.args.s.now c.loop-at.at ≡ Whole c.f-1.tag c.f-1.start c.f-1.len c.f-1.next = sym c.read_field-f.ensures ∙ c.f-1.is in
-    let where-is : Placed c.args.s.now c.loop-at.at c.f-1.start c.f-1.len c.f-1.next = placed _ _ found in
+    let found : field_at c.args.s.now c.loop-at.at ≡ Whole c.in-Whole.tag c.in-Whole.start c.in-Whole.len c.in-Whole.next = sym c.read_field-f.ensures ∙ c.in-Whole.is in
+    let where-is : Placed c.args.s.now c.loop-at.at c.in-Whole.start c.in-Whole.len c.in-Whole.next = placed _ _ found in
     let p = where-is in omega arith
 
 pub read_node-r-requires : goal.read_node-r-requires
@@ -42,7 +42,7 @@ read_node-r-requires c =
 
 pub returns-then-r-ne0 : goal.returns-then-r-ne0
 returns-then-r-ne0 c =
-    let found : field_at c.args.s.now c.loop-at.at ≡ Whole c.f-1.tag c.f-1.start c.f-1.len c.f-1.next = sym c.read_field-f.ensures ∙ c.f-1.is in
+    let found : field_at c.args.s.now c.loop-at.at ≡ Whole c.in-Whole.tag c.in-Whole.start c.in-Whole.len c.in-Whole.next = sym c.read_field-f.ensures ∙ c.in-Whole.is in
     let b3 = c.before.before.before in
     let b8 = b3.before.before.before.before.before in
     let b10 = b8.before.before in
@@ -51,7 +51,7 @@ returns-then-r-ne0 c =
 
 pub offset_bounds-nodes-n : goal.offset_bounds-nodes-n
 offset_bounds-nodes-n c =
-    let found : field_at c.args.s.now c.loop-at.at ≡ Whole c.f-1.tag c.f-1.start c.f-1.len c.f-1.next = sym c.read_field-f.ensures ∙ c.f-1.is in
+    let found : field_at c.args.s.now c.loop-at.at ≡ Whole c.in-Whole.tag c.in-Whole.start c.in-Whole.len c.in-Whole.next = sym c.read_field-f.ensures ∙ c.in-Whole.is in
     let b3 = c.before.before.before in
     let b8 = b3.before.before.before.before.before in
     let b10 = b8.before.before in
@@ -61,7 +61,7 @@ offset_bounds-nodes-n c =
 
 pub bounds-nodes-n : goal.bounds-nodes-n
 bounds-nodes-n c =
-    let found : field_at c.args.s.now c.loop-at.at ≡ Whole c.f-1.tag c.f-1.start c.f-1.len c.f-1.next = sym c.read_field-f.ensures ∙ c.f-1.is in
+    let found : field_at c.args.s.now c.loop-at.at ≡ Whole c.in-Whole.tag c.in-Whole.start c.in-Whole.len c.in-Whole.next = sym c.read_field-f.ensures ∙ c.in-Whole.is in
     let b3 = c.before.before.before in
     let b8 = b3.before.before.before.before.before in
     let b10 = b8.before.before in
@@ -71,7 +71,7 @@ bounds-nodes-n c =
 
 pub overflow_add-n : goal.overflow_add-n
 overflow_add-n c =
-    let found : field_at c.args.s.now c.loop-at.at ≡ Whole c.f-1.tag c.f-1.start c.f-1.len c.f-1.next = sym c.read_field-f.ensures ∙ c.f-1.is in
+    let found : field_at c.args.s.now c.loop-at.at ≡ Whole c.in-Whole.tag c.in-Whole.start c.in-Whole.len c.in-Whole.next = sym c.read_field-f.ensures ∙ c.in-Whole.is in
     let b3 = c.before.before.before in
     let b8 = b3.before.before.before.before.before in
     let b10 = b8.before.before in
@@ -81,15 +81,15 @@ overflow_add-n c =
 
 pub loop-at-smaller-then-tag-eq1 : goal.loop-at-smaller-then-tag-eq1
 loop-at-smaller-then-tag-eq1 c =
-    let found : field_at c.args.s.now c.loop-at.at ≡ Whole c.f-1.tag c.f-1.start c.f-1.len c.f-1.next = sym c.read_field-f.ensures ∙ c.f-1.is in
-    let where-is : Placed c.args.s.now c.loop-at.at c.f-1.start c.f-1.len c.f-1.next = placed _ _ found in
+    let found : field_at c.args.s.now c.loop-at.at ≡ Whole c.in-Whole.tag c.in-Whole.start c.in-Whole.len c.in-Whole.next = sym c.read_field-f.ensures ∙ c.in-Whole.is in
+    let where-is : Placed c.args.s.now c.loop-at.at c.in-Whole.start c.in-Whole.len c.in-Whole.next = placed _ _ found in
     let b10 = c.before.before.before.before.before.before.before.before.before.before in
     let b14 = b10.before.before.before.before in
     let p = where-is in omega (arith, b14.loop-at-test.true)
 
 pub loop-at-preserved-then-tag-eq1 : goal.loop-at-preserved-then-tag-eq1
 loop-at-preserved-then-tag-eq1 c =
-    let found : field_at c.args.s.now c.loop-at.at ≡ Whole c.f-1.tag c.f-1.start c.f-1.len c.f-1.next = sym c.read_field-f.ensures ∙ c.f-1.is in
+    let found : field_at c.args.s.now c.loop-at.at ≡ Whole c.in-Whole.tag c.in-Whole.start c.in-Whole.len c.in-Whole.next = sym c.read_field-f.ensures ∙ c.in-Whole.is in
     let b3 = c.before.before.before in
     let b8 = b3.before.before.before.before.before in
     let b10 = b8.before.before in
@@ -101,7 +101,7 @@ root_number-e-requires c = (c.if-tag-eq1.false, c.loop-at.invariant.state.named.
 
 pub returns-then-e-ne0 : goal.returns-then-e-ne0
 returns-then-e-ne0 c =
-    let found : field_at c.args.s.now c.loop-at.at ≡ Whole c.f-1.tag c.f-1.start c.f-1.len c.f-1.next = sym c.read_field-f.ensures ∙ c.f-1.is in
+    let found : field_at c.args.s.now c.loop-at.at ≡ Whole c.in-Whole.tag c.in-Whole.start c.in-Whole.len c.in-Whole.next = sym c.read_field-f.ensures ∙ c.in-Whole.is in
     let b4 = c.before.before.before.before in
     let b6 = b4.before.before in
     let b11 = b6.before.before.before.before.before in
@@ -109,8 +109,8 @@ returns-then-e-ne0 c =
 
 pub overflow_sub-s : goal.overflow_sub-s
 overflow_sub-s c =
-    let found : field_at c.args.s.now c.loop-at.at ≡ Whole c.f-1.tag c.f-1.start c.f-1.len c.f-1.next = sym c.read_field-f.ensures ∙ c.f-1.is in
-    let where-is : Placed c.args.s.now c.loop-at.at c.f-1.start c.f-1.len c.f-1.next = placed _ _ found in
+    let found : field_at c.args.s.now c.loop-at.at ≡ Whole c.in-Whole.tag c.in-Whole.start c.in-Whole.len c.in-Whole.next = sym c.read_field-f.ensures ∙ c.in-Whole.is in
+    let where-is : Placed c.args.s.now c.loop-at.at c.in-Whole.start c.in-Whole.len c.in-Whole.next = placed _ _ found in
     let p = where-is in omega arith
 
 pub ended-requires : goal.ended-requires
@@ -118,7 +118,7 @@ ended-requires c = rw c.hold-t.ensures c.loop-at.invariant.state.good.n
 
 pub returns-then-tag-eq3 : goal.returns-then-tag-eq3
 returns-then-tag-eq3 c =
-    let found : field_at c.args.s.now c.loop-at.at ≡ Whole c.f-1.tag c.f-1.start c.f-1.len c.f-1.next = sym c.read_field-f.ensures ∙ c.f-1.is in
+    let found : field_at c.args.s.now c.loop-at.at ≡ Whole c.in-Whole.tag c.in-Whole.start c.in-Whole.len c.in-Whole.next = sym c.read_field-f.ensures ∙ c.in-Whole.is in
     let b3 = c.before.before.before in
     let b4 = b3.before in
     let b5 = b4.before in
@@ -131,7 +131,7 @@ returns-then-tag-eq3 c =
 
 pub bounds-counts-defs : goal.bounds-counts-defs
 bounds-counts-defs c =
-    let found : field_at c.args.s.now c.loop-at.at ≡ Whole c.f-1.tag c.f-1.start c.f-1.len c.f-1.next = sym c.read_field-f.ensures ∙ c.f-1.is in
+    let found : field_at c.args.s.now c.loop-at.at ≡ Whole c.in-Whole.tag c.in-Whole.start c.in-Whole.len c.in-Whole.next = sym c.read_field-f.ensures ∙ c.in-Whole.is in
     let b3 = c.before.before.before in
     let b5 = b3.before.before in
     let b7 = b5.before.before in
@@ -141,7 +141,7 @@ bounds-counts-defs c =
 
 pub bounds-bodies-defs : goal.bounds-bodies-defs
 bounds-bodies-defs c =
-    let found : field_at c.args.s.now c.loop-at.at ≡ Whole c.f-1.tag c.f-1.start c.f-1.len c.f-1.next = sym c.read_field-f.ensures ∙ c.f-1.is in
+    let found : field_at c.args.s.now c.loop-at.at ≡ Whole c.in-Whole.tag c.in-Whole.start c.in-Whole.len c.in-Whole.next = sym c.read_field-f.ensures ∙ c.in-Whole.is in
     let b3 = c.before.before.before in
     let b4 = b3.before in
     let b6 = b4.before.before in
@@ -152,7 +152,7 @@ bounds-bodies-defs c =
 
 pub overflow_add-defs : goal.overflow_add-defs
 overflow_add-defs c =
-    let found : field_at c.args.s.now c.loop-at.at ≡ Whole c.f-1.tag c.f-1.start c.f-1.len c.f-1.next = sym c.read_field-f.ensures ∙ c.f-1.is in
+    let found : field_at c.args.s.now c.loop-at.at ≡ Whole c.in-Whole.tag c.in-Whole.start c.in-Whole.len c.in-Whole.next = sym c.read_field-f.ensures ∙ c.in-Whole.is in
     let b3 = c.before.before.before in
     let b4 = b3.before in
     let b6 = b4.before.before in
@@ -163,15 +163,15 @@ overflow_add-defs c =
 
 pub loop-at-smaller : goal.loop-at-smaller
 loop-at-smaller c =
-    let found : field_at c.args.s.now c.loop-at.at ≡ Whole c.f-1.tag c.f-1.start c.f-1.len c.f-1.next = sym c.read_field-f.ensures ∙ c.f-1.is in
-    let where-is : Placed c.args.s.now c.loop-at.at c.f-1.start c.f-1.len c.f-1.next = placed _ _ found in
+    let found : field_at c.args.s.now c.loop-at.at ≡ Whole c.in-Whole.tag c.in-Whole.start c.in-Whole.len c.in-Whole.next = sym c.read_field-f.ensures ∙ c.in-Whole.is in
+    let where-is : Placed c.args.s.now c.loop-at.at c.in-Whole.start c.in-Whole.len c.in-Whole.next = placed _ _ found in
     let b8 = c.before.before.before.before.before.before.before.before in
     let b12 = b8.before.before.before.before in
     let p = where-is in omega (arith, b12.loop-at-test.true)
 
 pub loop-at-preserved : goal.loop-at-preserved
 loop-at-preserved c =
-    let found : field_at c.args.s.now c.loop-at.at ≡ Whole c.f-1.tag c.f-1.start c.f-1.len c.f-1.next = sym c.read_field-f.ensures ∙ c.f-1.is in
+    let found : field_at c.args.s.now c.loop-at.at ≡ Whole c.in-Whole.tag c.in-Whole.start c.in-Whole.len c.in-Whole.next = sym c.read_field-f.ensures ∙ c.in-Whole.is in
     let b3 = c.before.before.before in
     let b4 = b3.before in
     let b6 = b4.before.before in

@@ -1,11 +1,12 @@
 -- `parse::parse` meets its contract. Assumes nothing.
 use mathlib.Core.Path.{◌≡◌, refl, sym, ap, ◌∙◌}
 use mathlib.Core.Bool.{Bool, ◌||◌, or-true, or-false}
-use mathlib.Core.Logic.{inl, inr, ⊎_elim}
+use mathlib.Core.Logic.{inl, inr}
 use Prim.Native.Nat.{ℕ, ◌+◌, ◌-◌, ◌<◌, min}
 use native.Mathlib.Omega.{arith}
 use Rattle.parse.proofs.Windows.{Covered, first-window, next-window, all-place, all-refused, all-taken, some_level}
 use Rattle.parse.proofs.parse.Goals as goal
+use Rattle.parse.proofs.parse.Goals.{then-p, else-p}
 
 pub pass-first-requires : goal.pass-first-requires
 pass-first-requires c = inl refl
@@ -29,7 +30,10 @@ loop-base-smaller-then-p-at c =
 
 pub loop-base-preserved-then-p-at : goal.loop-base-preserved-then-p-at
 loop-base-preserved-then-p-at c =
-    let either : c.if-p.refused ≡ (c.loop-base.refused || c.pass-p.result.refused) = ⊎_elim (λ x. x.1 ∙ sym (ap (λ (b : Bool). c.loop-base.refused || b) x.0.taken ∙ or-true c.loop-base.refused)) (λ x. x.1 ∙ sym (ap (λ (b : Bool). c.loop-base.refused || b) x.0.left ∙ or-false c.loop-base.refused)) c.if-p.branch in
+    let either : c.if-p.refused ≡ (c.loop-base.refused || c.pass-p.result.refused) = elim c.if-p.branch [
+      | then-p w ↦ w.refused-is ∙ sym (ap (λ (b : Bool). c.loop-base.refused || b) w.if-p.true ∙ or-true c.loop-base.refused)
+      | else-p w ↦ w.refused-is ∙ sym (ap (λ (b : Bool). c.loop-base.refused || b) w.if-p.false ∙ or-false c.loop-base.refused)
+    ] in
     let again : (k : ℕ) → k ≡ min c.loop-base.at c.pass-p.result.place → Covered c.args.s.now (c.loop-base.base + 4096) c.if-p.refused k c.pass-first.result.deepest c.pass-first.result.done = (λ k q. let l = c.loop-base.invariant in let t = c.loop-base-test.true in rw (q, either) (next-window _ _ _ _ _ _ _ _ _ _ l (let x = l.reached in omega (arith, x, t)) c.pass-p.ensures)) in
     again _ (let x = c.if-p-at.true in omega (arith, x))
 
@@ -40,7 +44,10 @@ loop-base-smaller c =
 
 pub loop-base-preserved : goal.loop-base-preserved
 loop-base-preserved c =
-    let either : c.if-p.refused ≡ (c.loop-base.refused || c.pass-p.result.refused) = ⊎_elim (λ x. x.1 ∙ sym (ap (λ (b : Bool). c.loop-base.refused || b) x.0.taken ∙ or-true c.loop-base.refused)) (λ x. x.1 ∙ sym (ap (λ (b : Bool). c.loop-base.refused || b) x.0.left ∙ or-false c.loop-base.refused)) c.if-p.branch in
+    let either : c.if-p.refused ≡ (c.loop-base.refused || c.pass-p.result.refused) = elim c.if-p.branch [
+      | then-p w ↦ w.refused-is ∙ sym (ap (λ (b : Bool). c.loop-base.refused || b) w.if-p.true ∙ or-true c.loop-base.refused)
+      | else-p w ↦ w.refused-is ∙ sym (ap (λ (b : Bool). c.loop-base.refused || b) w.if-p.false ∙ or-false c.loop-base.refused)
+    ] in
     let again : (k : ℕ) → k ≡ min c.loop-base.at c.pass-p.result.place → Covered c.args.s.now (c.loop-base.base + 4096) c.if-p.refused k c.pass-first.result.deepest c.pass-first.result.done = (λ k q. let l = c.loop-base.invariant in let t = c.loop-base-test.true in rw (q, either) (next-window _ _ _ _ _ _ _ _ _ _ l (let x = l.reached in omega (arith, x, t)) c.pass-p.ensures)) in
     again _ (let x = c.if-p-at.false in omega (arith, x))
 

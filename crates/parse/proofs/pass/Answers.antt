@@ -96,7 +96,7 @@ loop-levels-smaller-then-deepest-depth c =
 pub loop-levels-preserved-then-deepest-depth : goal.loop-levels-preserved-then-deepest-depth
 loop-levels-preserved-then-deepest-depth c =
     let going : Going c.args.s.now c.args.base c.loop-levels.at c.loop-levels.depth c.loop-levels.deepest c.loop-levels.levels = c.loop-levels.invariant in
-    let again : (k : ℕ) → k ≡ max c.loop-levels.deepest c.advance-depth.result → Going c.args.s.now c.args.base c.next-t.result.end c.advance-depth.result k c.advance-depth.new.0 = (λ k q. let t = c.before.before.before in let b = t.before.before in let a = b.before.before in turn-next _ _ a.requires _ _ _ _ going _ a.next-t.ensures _ a.level-c.ensures.0 b.if-kind-eq0.false _ b.judge-m.ensures t.if-m-eq-REFUSED.false (sym t.too_many.ensures ∙ c.if-too_many.false) _ _ _ c.advance-depth.ensures.0 c.advance-depth.ensures.1 q) in
+    let again : (k : ℕ) → k ≡ max c.loop-levels.deepest c.advance-depth.result → Going c.args.s.now c.args.base c.next-t.result.end c.advance-depth.result k c.advance-depth.new.levels = (λ k q. let t = c.before.before.before in let b = t.before.before in let a = b.before.before in turn-next _ _ a.requires _ _ _ _ going _ a.next-t.ensures _ a.level-c.ensures.0 b.if-kind-eq0.false _ b.judge-m.ensures t.if-m-eq-REFUSED.false (sym t.too_many.ensures ∙ c.if-too_many.false) _ _ _ c.advance-depth.ensures.0 c.advance-depth.ensures.1 q) in
     again _ (let x = c.if-deepest-depth.true in omega (arith, x))
 
 pub loop-levels-smaller : goal.loop-levels-smaller
@@ -109,5 +109,5 @@ loop-levels-smaller c =
 pub loop-levels-preserved : goal.loop-levels-preserved
 loop-levels-preserved c =
     let going : Going c.args.s.now c.args.base c.loop-levels.at c.loop-levels.depth c.loop-levels.deepest c.loop-levels.levels = c.loop-levels.invariant in
-    let again : (k : ℕ) → k ≡ max c.loop-levels.deepest c.advance-depth.result → Going c.args.s.now c.args.base c.next-t.result.end c.advance-depth.result k c.advance-depth.new.0 = (λ k q. let t = c.before.before.before in let b = t.before.before in let a = b.before.before in turn-next _ _ a.requires _ _ _ _ going _ a.next-t.ensures _ a.level-c.ensures.0 b.if-kind-eq0.false _ b.judge-m.ensures t.if-m-eq-REFUSED.false (sym t.too_many.ensures ∙ c.if-too_many.false) _ _ _ c.advance-depth.ensures.0 c.advance-depth.ensures.1 q) in
+    let again : (k : ℕ) → k ≡ max c.loop-levels.deepest c.advance-depth.result → Going c.args.s.now c.args.base c.next-t.result.end c.advance-depth.result k c.advance-depth.new.levels = (λ k q. let t = c.before.before.before in let b = t.before.before in let a = b.before.before in turn-next _ _ a.requires _ _ _ _ going _ a.next-t.ensures _ a.level-c.ensures.0 b.if-kind-eq0.false _ b.judge-m.ensures t.if-m-eq-REFUSED.false (sym t.too_many.ensures ∙ c.if-too_many.false) _ _ _ c.advance-depth.ensures.0 c.advance-depth.ensures.1 q) in
     again _ (let x = c.if-deepest-depth.false in omega (arith, x))

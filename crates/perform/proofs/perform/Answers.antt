@@ -30,77 +30,77 @@ returns-in_default c =
     let g = m.before.before in
     let e = sym m.read_field-f.ensures in
     ⊎_elim (λ q. absurd (not-cut g.loop-at.invariant (e ∙ q))) (λ q. absurd (before-end g.args.list.now g.loop-at.at g.loop-at-test.true (e ∙ q)))
-    (not-whole _ m.in_default.in_default-own.keys2)
+    (not-whole _ m.in_default.not-Whole)
 
 pub event_of-e-requires : goal.event_of-e-requires
 event_of-e-requires c =
-    let whole-at : field_at c.args.list.now c.loop-at.at ≡ Whole c.f-1.tag c.f-1.start c.f-1.len c.f-1.next = sym c.read_field-f.ensures ∙ c.f-1.is in
-    let place : Placed c.args.list.now c.loop-at.at c.f-1.start c.f-1.len c.f-1.next = placed _ _ whole-at in
+    let whole-at : field_at c.args.list.now c.loop-at.at ≡ Whole c.in-Whole.tag c.in-Whole.start c.in-Whole.len c.in-Whole.next = sym c.read_field-f.ensures ∙ c.in-Whole.is in
+    let place : Placed c.args.list.now c.loop-at.at c.in-Whole.start c.in-Whole.len c.in-Whole.next = placed _ _ whole-at in
     let p = place in omega arith
 
 pub do_event-r-requires : goal.do_event-r-requires
 do_event-r-requires c =
     let l = c.before in
-    let r = c.pre.ready in
+    let r = c.requires.ready in
     (record { whole = l.loop-at.inv.whole; idle = l.loop-at.inv.idle; sound = r.sound; inside = r.inside; sort = r.sort }, l.loop-at.inv.lit)
 
 pub overflow_mul-code : goal.overflow_mul-code
 overflow_mul-code c =
-    let whole-at : field_at c.args.list.now c.loop-at.at ≡ Whole c.f-1.tag c.f-1.start c.f-1.len c.f-1.next = sym c.read_field-f.ensures ∙ c.f-1.is in
+    let whole-at : field_at c.args.list.now c.loop-at.at ≡ Whole c.in-Whole.tag c.in-Whole.start c.in-Whole.len c.in-Whole.next = sym c.read_field-f.ensures ∙ c.in-Whole.is in
     let cells_at : answer_width * c.loop-at.k + answer_width ≤ length c.loop-at.space = has_cells c.loop-at.invariant whole-at in
     let h = cells_at in search rules
 
 pub offset_bounds-space-k : goal.offset_bounds-space-k
 offset_bounds-space-k c =
-    let whole-at : field_at c.args.list.now c.loop-at.at ≡ Whole c.f-1.tag c.f-1.start c.f-1.len c.f-1.next = sym c.read_field-f.ensures ∙ c.f-1.is in
+    let whole-at : field_at c.args.list.now c.loop-at.at ≡ Whole c.in-Whole.tag c.in-Whole.start c.in-Whole.len c.in-Whole.next = sym c.read_field-f.ensures ∙ c.in-Whole.is in
     let cells_at : answer_width * c.loop-at.k + answer_width ≤ length c.loop-at.space = has_cells c.loop-at.invariant whole-at in
     let h = cells_at in search rules
 
 pub bounds-space-k : goal.bounds-space-k
 bounds-space-k c =
-    let whole-at : field_at c.args.list.now c.loop-at.at ≡ Whole c.f-1.tag c.f-1.start c.f-1.len c.f-1.next = sym c.read_field-f.ensures ∙ c.f-1.is in
+    let whole-at : field_at c.args.list.now c.loop-at.at ≡ Whole c.in-Whole.tag c.in-Whole.start c.in-Whole.len c.in-Whole.next = sym c.read_field-f.ensures ∙ c.in-Whole.is in
     let cells_at : answer_width * c.loop-at.k + answer_width ≤ length c.loop-at.space = has_cells c.loop-at.invariant whole-at in
     let h = cells_at in search rules
 
 pub overflow_mul-value : goal.overflow_mul-value
 overflow_mul-value c =
-    let whole-at : field_at c.args.list.now c.loop-at.at ≡ Whole c.f-1.tag c.f-1.start c.f-1.len c.f-1.next = sym c.read_field-f.ensures ∙ c.f-1.is in
+    let whole-at : field_at c.args.list.now c.loop-at.at ≡ Whole c.in-Whole.tag c.in-Whole.start c.in-Whole.len c.in-Whole.next = sym c.read_field-f.ensures ∙ c.in-Whole.is in
     let cells_at : answer_width * c.loop-at.k + answer_width ≤ length c.loop-at.space = has_cells c.loop-at.invariant whole-at in
     let h = cells_at in search rules
 
 pub overflow_add-value : goal.overflow_add-value
 overflow_add-value c =
-    let whole-at : field_at c.args.list.now c.loop-at.at ≡ Whole c.f-1.tag c.f-1.start c.f-1.len c.f-1.next = sym c.read_field-f.ensures ∙ c.f-1.is in
+    let whole-at : field_at c.args.list.now c.loop-at.at ≡ Whole c.in-Whole.tag c.in-Whole.start c.in-Whole.len c.in-Whole.next = sym c.read_field-f.ensures ∙ c.in-Whole.is in
     let cells_at : answer_width * c.loop-at.k + answer_width ≤ length c.loop-at.space = has_cells c.loop-at.invariant whole-at in
     let h = cells_at in search rules
 
 pub offset_bounds-space-k-in-loop-at : goal.offset_bounds-space-k-in-loop-at
 offset_bounds-space-k-in-loop-at c =
-    let whole-at : field_at c.args.list.now c.loop-at.at ≡ Whole c.f-1.tag c.f-1.start c.f-1.len c.f-1.next = sym c.read_field-f.ensures ∙ c.f-1.is in
+    let whole-at : field_at c.args.list.now c.loop-at.at ≡ Whole c.in-Whole.tag c.in-Whole.start c.in-Whole.len c.in-Whole.next = sym c.read_field-f.ensures ∙ c.in-Whole.is in
     let cells_at : answer_width * c.loop-at.k + answer_width ≤ length c.loop-at.space = has_cells c.loop-at.invariant whole-at in
     let h = cells_at in search rules
 
 pub bounds-space-k-in-loop-at : goal.bounds-space-k-in-loop-at
 bounds-space-k-in-loop-at c =
-    let whole-at : field_at c.args.list.now c.loop-at.at ≡ Whole c.f-1.tag c.f-1.start c.f-1.len c.f-1.next = sym c.read_field-f.ensures ∙ c.f-1.is in
+    let whole-at : field_at c.args.list.now c.loop-at.at ≡ Whole c.in-Whole.tag c.in-Whole.start c.in-Whole.len c.in-Whole.next = sym c.read_field-f.ensures ∙ c.in-Whole.is in
     let cells_at : answer_width * c.loop-at.k + answer_width ≤ length c.loop-at.space = has_cells c.loop-at.invariant whole-at in
     let h = cells_at in simp length-set (omega arith)
 
 pub overflow_add-k : goal.overflow_add-k
 overflow_add-k c =
-    let whole-at : field_at c.args.list.now c.loop-at.at ≡ Whole c.f-1.tag c.f-1.start c.f-1.len c.f-1.next = sym c.read_field-f.ensures ∙ c.f-1.is in
+    let whole-at : field_at c.args.list.now c.loop-at.at ≡ Whole c.in-Whole.tag c.in-Whole.start c.in-Whole.len c.in-Whole.next = sym c.read_field-f.ensures ∙ c.in-Whole.is in
     let cells_at : answer_width * c.loop-at.k + answer_width ≤ length c.loop-at.space = has_cells c.loop-at.invariant whole-at in
     let h = cells_at in search rules
 
 pub loop-at-smaller : goal.loop-at-smaller
 loop-at-smaller c =
-    let whole-at : field_at c.args.list.now c.loop-at.at ≡ Whole c.f-1.tag c.f-1.start c.f-1.len c.f-1.next = sym c.read_field-f.ensures ∙ c.f-1.is in
-    let place : Placed c.args.list.now c.loop-at.at c.f-1.start c.f-1.len c.f-1.next = placed _ _ whole-at in
+    let whole-at : field_at c.args.list.now c.loop-at.at ≡ Whole c.in-Whole.tag c.in-Whole.start c.in-Whole.len c.in-Whole.next = sym c.read_field-f.ensures ∙ c.in-Whole.is in
+    let place : Placed c.args.list.now c.loop-at.at c.in-Whole.start c.in-Whole.len c.in-Whole.next = placed _ _ whole-at in
     let p = place in omega (arith, c.loop-at-test.taken)
 
 pub loop-at-preserved : goal.loop-at-preserved
 loop-at-preserved c =
-    let whole-at : field_at c.args.list.now c.loop-at.at ≡ Whole c.f-1.tag c.f-1.start c.f-1.len c.f-1.next = sym c.read_field-f.ensures ∙ c.f-1.is in
+    let whole-at : field_at c.args.list.now c.loop-at.at ≡ Whole c.in-Whole.tag c.in-Whole.start c.in-Whole.len c.in-Whole.next = sym c.read_field-f.ensures ∙ c.in-Whole.is in
     let n = c.before in
     let d = n.do_event-r in
     let e = n.event_of-e in
