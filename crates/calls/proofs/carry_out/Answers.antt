@@ -16,9 +16,8 @@ returns-then-p-ne0 c =
     let network : List ℤ = c.args.network.now in
     let read : Read = read_by c.args.single c.args.list.now in
     let space : List ℤ = c.args.space.now in
-    let t = c.before in
-    by-program program network read space c.refused.result (c.refused.ensures ∙ t.prepare-p.ensures.verdict)
-    (λ z. t.if-p-ne0.true (no_number c.refused.ensures z))
+    by-program program network read space c.refused.result (c.refused.ensures ∙ c.prepare-p.ensures.verdict)
+    (λ z. c.if-p-ne0.true (no_number c.refused.ensures z))
 
 pub returns-then-sound-ne0 : goal.returns-then-sound-ne0
 returns-then-sound-ne0 c =
@@ -38,9 +37,8 @@ returns-then-counted-ne0 c =
     let space : List ℤ = c.args.space.now in
     let program-good : (check program).0 ≡ 0 = no_number c.prepare-p.ensures.verdict c.if-p-ne0.false in
     let network-sound : (soundness network).0 ≡ 0 = no_number c.soundness-sound.ensures c.if-sound-ne0.false in
-    let t = c.before in
     by-list program network read space c.refused-then-counted-ne0.result program-good network-sound
-    (c.refused-then-counted-ne0.ensures ∙ of-verdict read _ t.count-counted.ensures) (λ z. t.if-counted-ne0.true (no_number c.refused-then-counted-ne0.ensures z))
+    (c.refused-then-counted-ne0.ensures ∙ of-verdict read _ c.count-counted.ensures) (λ z. c.if-counted-ne0.true (no_number c.refused-then-counted-ne0.ensures z))
 
 pub returns-then-space-counted : goal.returns-then-space-counted
 returns-then-space-counted c =
@@ -50,11 +48,9 @@ returns-then-space-counted c =
     let space : List ℤ = c.args.space.now in
     let program-good : (check program).0 ≡ 0 = no_number c.prepare-p.ensures.verdict c.if-p-ne0.false in
     let network-sound : (soundness network).0 ≡ 0 = no_number c.soundness-sound.ensures c.if-sound-ne0.false in
-    let t = c.before in
-    let l = t.before.before in
-    let k = l.count-counted in
-    by-room program network read space c.refused-then-space-counted.result program-good network-sound (no_number (of-verdict read _ k.ensures) l.if-counted-ne0.false)
-    k.result.events (of-events read _ k.ensures) c.refused-then-space-counted.ensures t.if-space-counted.true
+    let k = c.count-counted in
+    by-room program network read space c.refused-then-space-counted.result program-good network-sound (no_number (of-verdict read _ k.ensures) c.if-counted-ne0.false)
+    k.result.events (of-events read _ k.ensures) c.refused-then-space-counted.ensures c.if-space-counted.true
 
 pub perform-requires : goal.perform-requires
 perform-requires c =
@@ -62,12 +58,10 @@ perform-requires c =
     let network : List ℤ = c.args.network.now in
     let space : List ℤ = c.args.space.now in
     let network-sound : (soundness network).0 ≡ 0 = no_number c.soundness-sound.ensures c.if-sound-ne0.false in
-    let f = c.before in
-    let l = f.before.before in
     let p = c in
     let s = c in
     tested program network s.args.list.now s.args.single space (p.before.before.prepare.ensures.ready p.if1.left) network-sound
-    l.count-counted.ensures l.if-counted-ne0.false f.if-space-counted.false
+    c.count-counted.ensures c.if-counted-ne0.false c.if-space-counted.false
 
 pub returns : goal.returns
 returns c =
@@ -76,11 +70,8 @@ returns c =
     let space : List ℤ = c.args.space.now in
     let program-good : (check program).0 ≡ 0 = no_number c.prepare-p.ensures.verdict c.if-p-ne0.false in
     let network-sound : (soundness network).0 ≡ 0 = no_number c.soundness-sound.ensures c.if-sound-ne0.false in
-    let r = c.before in
-    let f = r.before.before.before.before.before in
-    let l = f.before.before in
     let p = c in
     let s = c in
     carried program network s.args.list.now s.args.single space (p.before.before.prepare.ensures.ready p.if1.left) network-sound
-    l.count-counted.ensures l.if-counted-ne0.false f.if-space-counted.false
-    r.perform.result r.perform.ensures.0 program-good r.perform.ensures.1
+    c.count-counted.ensures c.if-counted-ne0.false c.if-space-counted.false
+    c.perform.result c.perform.ensures.0 program-good c.perform.ensures.1

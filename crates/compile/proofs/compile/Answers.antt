@@ -24,71 +24,45 @@ main_node-requires c =
 
 pub returns-then-kind-eq0 : goal.returns-then-kind-eq0
 returns-then-kind-eq0 c =
-    let t = c.before.before.before.before in
-    let n = t.before in
-    let l = n.before.before in
-    let s = l.args.s.now in
-    making-end s _ _ _ _ _ _ _ l.loop-at.invariant (making-none s _ _ _ _ _ _ _ l.loop-at.invariant _ n.next-l.ensures t.if-kind-eq0.true) _ _ _ c.last.ensures c.main_node.ensures
+    let s = c.args.s.now in
+    making-end s _ _ _ _ _ _ _ c.loop-at.invariant (making-none s _ _ _ _ _ _ _ c.loop-at.invariant _ c.next-l.ensures c.if-kind-eq0.true) _ _ _ c.last.ensures c.main_node.ensures
 
 pub token_done-o-requires : goal.token_done-o-requires
 token_done-o-requires c =
     let ready : Able c.loop-at.out c.loop-at.stack c.loop-at.o = making-able c.args.s.now _ _ _ _ _ _ _ c.loop-at.invariant in
-    let f = c.before.before in
-    let n = f.before.before in
-    let l = n.before.before in
-    let s = l.args.s.now in
-    let b = making-begun s _ _ _ _ _ _ _ l.loop-at.invariant _ n.next-l.ensures f.if-kind-eq0.false _ f.form_start-top.ensures in
-    let w = making-within s _ _ _ _ _ _ _ l.loop-at.invariant _ n.next-l.ensures in
+    let s = c.args.s.now in
+    let b = making-begun s _ _ _ _ _ _ _ c.loop-at.invariant _ c.next-l.ensures c.if-kind-eq0.false _ c.form_start-top.ensures in
+    let w = making-within s _ _ _ _ _ _ _ c.loop-at.invariant _ c.next-l.ensures in
     (b.0, w.1, w.2, b.1, ready)
 
 pub returns-then-full : goal.returns-then-full
 returns-then-full c =
-    let u = c.before in
-    let t = u.before in
-    let f = t.before.before.before in
-    let n = f.before.before in
-    let l = n.before.before in
-    let s = l.args.s.now in
-    making-full s _ _ _ _ _ _ _ l.loop-at.invariant _ n.next-l.ensures f.if-kind-eq0.false _ f.form_start-top.ensures _ _ _ t.token_done-o.ensures (sym u.full.ensures ∙ c.if-full.true)
+    let s = c.args.s.now in
+    making-full s _ _ _ _ _ _ _ c.loop-at.invariant _ c.next-l.ensures c.if-kind-eq0.false _ c.form_start-top.ensures _ _ _ c.token_done-o.ensures (sym c.full.ensures ∙ c.if-full.true)
 
 pub depth_after-d-requires : goal.depth_after-d-requires
 depth_after-d-requires c =
-    let f = c.before.before.before.before.before in
-    let n = f.before.before in
-    let l = n.before.before in
-    let s = l.args.s.now in
-    let x = making-less s _ _ _ _ _ _ _ l.loop-at.invariant _ n.next-l.ensures f.if-kind-eq0.false _ f.form_start-top.ensures in
-    let y = l.loop-at.invariant.going.cut.deep in
-    omega (arith, x, y, n.next-l.type_inv)
+    let s = c.args.s.now in
+    let x = making-less s _ _ _ _ _ _ _ c.loop-at.invariant _ c.next-l.ensures c.if-kind-eq0.false _ c.form_start-top.ensures in
+    let y = c.loop-at.invariant.going.cut.deep in
+    omega (arith, x, y, c.next-l.type_inv)
 
 pub token_code-requires : goal.token_code-requires
 token_code-requires c =
-    let f = c.before.before.before.before.before.before in
-    let n = f.before.before in
-    let l = n.before.before in
-    let w = making-within l.args.s.now _ _ _ _ _ _ _ l.loop-at.invariant _ n.next-l.ensures in
+    let w = making-within c.args.s.now _ _ _ _ _ _ _ c.loop-at.invariant _ c.next-l.ensures in
     (w.1, w.2)
 
 pub loop-at-smaller : goal.loop-at-smaller
 loop-at-smaller c =
-    let f = c.before.before.before.before.before.before.before.before in
-    let n = f.before.before in
-    let l = n.before.before in
-    let s = l.args.s.now in
-    let x = making-less s _ _ _ _ _ _ _ l.loop-at.invariant _ n.next-l.ensures f.if-kind-eq0.false _ f.form_start-top.ensures in
-    let w = making-within s _ _ _ _ _ _ _ l.loop-at.invariant _ n.next-l.ensures in
+    let s = c.args.s.now in
+    let x = making-less s _ _ _ _ _ _ _ c.loop-at.invariant _ c.next-l.ensures c.if-kind-eq0.false _ c.form_start-top.ensures in
+    let w = making-within s _ _ _ _ _ _ _ c.loop-at.invariant _ c.next-l.ensures in
     omega (arith, x, w.2)
 
 pub loop-at-preserved : goal.loop-at-preserved
 loop-at-preserved c =
-    let h = c.before.before.before in
-    let u = h.before in
-    let t = u.before in
-    let f = t.before.before.before in
-    let n = f.before.before in
-    let l = n.before.before in
-    let s = l.args.s.now in
-    making-next s _ _ _ _ _ _ _ l.loop-at.invariant _ n.next-l.ensures f.if-kind-eq0.false _ f.form_start-top.ensures _ _ _ t.token_done-o.ensures (sym u.full.ensures ∙ h.if-full.false) _ _ _
+    let s = c.args.s.now in
+    making-next s _ _ _ _ _ _ _ c.loop-at.invariant _ c.next-l.ensures c.if-kind-eq0.false _ c.form_start-top.ensures _ _ _ c.token_done-o.ensures (sym c.full.ensures ∙ c.if-full.false) _ _ _
     c.depth_after-d.ensures c.token_code.ensures c.mode_after-m.ensures
 
 pub last-requires-2 : goal.last-requires-2
@@ -103,7 +77,5 @@ main_node-requires-2 c =
 
 pub returns : goal.returns
 returns c =
-    let t = c.before.before.before.before in
-    let l = t.before in
-    let s = l.args.s.now in
-    making-end s _ _ _ _ _ _ _ l.loop-at.invariant (making-over s _ _ _ _ _ _ _ l.loop-at.invariant t.loop-at-test.false) _ _ _ c.last-2.ensures c.main_node-2.ensures
+    let s = c.args.s.now in
+    making-end s _ _ _ _ _ _ _ c.loop-at.invariant (making-over s _ _ _ _ _ _ _ c.loop-at.invariant c.loop-at-test.false) _ _ _ c.last-2.ensures c.main_node-2.ensures

@@ -46,11 +46,10 @@ returns-then-f-ne0 c =
     let in-range : out_of_range (fire c.args.a) ≡ false = sym c.fire_refused.ensures ∙ c.if-fire_refused.false in
     let near : (1 ≤ c.args.a) × (c.args.a ≤ 16) = device _ (not-false _ in-range) in
     let whole-block : base c.args.a + block_size ≤ length c.args.net.now = (let p = near in omega (arith, c.requires.whole)) in
-    let r = c.before in
-    let v = r.evaluate-v in
+    let v = c.evaluate-v in
     let e = c.own_cells-here.ensures in
     fails _ _ _ whole-block _ e v.result _ v.new.st _ in-range c.begin.ensures.state v.ensures (λ q. c.if-f-ne0.true (ap (of_z w32) q))
-    (λ k e. ap (λ (y : ℤ). (pos 17, y)) (node-read (fault_of v.new.st) k (sfits_of r.f-1.given) e))
+    (λ k e. ap (λ (y : ℤ). (pos 17, y)) (node-read (fault_of v.new.st) k (sfits_of c.f-1.given) e))
 
 pub put_round-requires : goal.put_round-requires
 put_round-requires c =

@@ -23,16 +23,15 @@ use Rattle.fire.proofs.put_message.Goals as goal
 pub returns-then-net-at-ne0 : goal.returns-then-net-at-ne0
 returns-then-net-at-ne0 c =
     let no-link : message c.args.here.now (state_of c.args.st.now) (1 + c.args.b) ≡ no_message = (let s = c.before.before in let d = get_or s.args.here.now (heard_at 1 + 16 * s.args.b) (pos 0) in unlinked s.args.here.now (state_of s.args.st.now) s.args.b (same_bits w32 d mark (sfits_of c.t11-1.given) (sfits_lit tt) c.if-here-b.true)) in
-    let t = c.before.before.before.before.before in
-    let s = t.before.before in
+    let s = c.before.before in
     c.no_message.ensures ∙ ap (store s.args.net.now s.args.at) (sym no-link)
 
 -- what is there already
+
 pub returns-else-net-at-ne0 : goal.returns-else-net-at-ne0
 returns-else-net-at-ne0 c =
     let no-link : message c.args.here.now (state_of c.args.st.now) (1 + c.args.b) ≡ no_message = (let s = c.before.before in let d = get_or s.args.here.now (heard_at 1 + 16 * s.args.b) (pos 0) in unlinked s.args.here.now (state_of s.args.st.now) s.args.b (same_bits w32 d mark (sfits_of c.t11-1.given) (sfits_lit tt) c.if-here-b.true)) in
-    let t = c.before.before in
-    let s = t.before.before in
+    let s = c.before.before in
     let n = s.args.net.now in
     let e : get_or n s.args.at (pos 0) ≡ pos 0 = same_bits w32 (get_or n s.args.at (pos 0)) (pos 0) (sfits_of c.t15-1.given) (sfits_lit tt) c.if-net-at-ne0.false in
     let i = s.requires.3 (row_first n s.args.at 16 (pos 0) (omega arith) ∙ e) in
@@ -41,9 +40,8 @@ returns-else-net-at-ne0 c =
 pub returns : goal.returns
 unfolding state_of
 returns c =
-    let s = c.before.before.before.before.before in
-    let n = s.args.net.now in
-    let r = row s.args.st.now 16 16 in
-    ap (λ (m : List ℤ). set m s.args.at (pos 1)) c.copy.ensures
-    ∙ (first-again n s.args.at r (pos 1) (omega (arith, row-length s.args.st.now 16 16 (omega (arith, s.requires.2))))
-    ∙ ap (store n s.args.at) (sym (linked s.args.here.now (state_of s.args.st.now) s.args.b (λ q. c.if-here-b.false (ap (of_z w32) q)))))
+    let n = c.args.net.now in
+    let r = row c.args.st.now 16 16 in
+    ap (λ (m : List ℤ). set m c.args.at (pos 1)) c.copy.ensures
+    ∙ (first-again n c.args.at r (pos 1) (omega (arith, row-length c.args.st.now 16 16 (omega (arith, c.requires.2))))
+    ∙ ap (store n c.args.at) (sym (linked c.args.here.now (state_of c.args.st.now) c.args.b (λ q. c.if-here-b.false (ap (of_z w32) q)))))

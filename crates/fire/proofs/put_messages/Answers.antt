@@ -23,10 +23,9 @@ pub put_message-requires : goal.put_message-requires
 put_message-requires c =
     let messages : ℕ → List ℤ = message c.args.here.now (state_of c.args.st.now) in
     let row_of : (b : ℕ) → length (messages b) ≡ 16 = (λ b. message-length c.args.here.now (state_of c.args.st.now) b (sent-length c.args.st.now c.requires.1)) in
-    let s = c.before.before.before in
     let l = c.loop-b in
     let k = joined_length messages 16 1 l.b (λ j _. row_of (1 + j)) in
-    (search rules, search rules, search rules, idle-behind _ _ _ s.args.at (s.args.at + 16 * l.b) l.invariant.2.is (omega (arith, k)) (s.requires.2 l.b (omega arith)))
+    (search rules, search rules, search rules, idle-behind _ _ _ c.args.at (c.args.at + 16 * l.b) l.invariant.2.is (omega (arith, k)) (c.requires.2 l.b (omega arith)))
 
 pub loop-b-preserved : goal.loop-b-preserved
 loop-b-preserved c =

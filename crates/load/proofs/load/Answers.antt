@@ -9,14 +9,6 @@ use Rattle.wire_reader.proofs.Laws.{placed, Placed}
 use Rattle.load.proofs.Turns.{begin, end-turn, broken-turn, node-refused, nodes-room, node-turn, root-refused, ends-turn, defs-room, define-turn}
 use Rattle.load.proofs.load.Goals as goal
 
--- ? no goal for this
--- part-b-start : tie.Need-slice-bounds-b-start invariant-loop decreases-loop
--- part-b-start c = let p = where-is c in omega arith
-
--- ? no goal for this
--- part-b-end : tie.Need-slice-bounds-b-end invariant-loop decreases-loop
--- part-b-end c = let p = where-is c in omega arith
-
 pub loop-at-init : goal.loop-at-init
 loop-at-init c = rw c.none-none.ensures (begin _)
 
@@ -25,9 +17,7 @@ overflow_add-place c = let g = c.loop-at.invariant.state.good in omega (arith, g
 
 pub returns-in_default : goal.returns-in_default
 returns-in_default c =
-    let b3 = c.before.before.before in
-    let b4 = b3.before in
-    rw c.refuse.ensures (broken-turn _ _ _ _ b4.loop-at.invariant c.read_field-f.ensures c.in_default.not-Whole b3.loop-at-test.true)
+    rw c.refuse.ensures (broken-turn _ _ _ _ c.loop-at.invariant c.read_field-f.ensures c.in_default.not-Whole c.loop-at-test.true)
 
 pub slice_bounds-b-count : goal.slice_bounds-b-count
 slice_bounds-b-count c =
@@ -37,64 +27,41 @@ slice_bounds-b-count c =
 
 pub read_node-r-requires : goal.read_node-r-requires
 read_node-r-requires c =
-    let b11 = c.before.before.before.before.before.before.before.before.before.before.before in
-    let g = b11.loop-at.invariant.state in (g.named.long, g.slots.long, g.kept.long, g.good.counts)
+    let g = c.loop-at.invariant.state in (g.named.long, g.slots.long, g.kept.long, g.good.counts)
 
 pub returns-then-r-ne0 : goal.returns-then-r-ne0
 returns-then-r-ne0 c =
     let found : field_at c.args.s.now c.loop-at.at ≡ Whole c.in-Whole.tag c.in-Whole.start c.in-Whole.len c.in-Whole.next = sym c.read_field-f.ensures ∙ c.in-Whole.is in
-    let b3 = c.before.before.before in
-    let b8 = b3.before.before.before.before.before in
-    let b10 = b8.before.before in
-    let b15 = b10.before.before.before.before.before in
-    rw c.refuse-then-r-ne0.ensures (node-refused _ _ _ _ b15.loop-at.invariant _ _ _ _ _ found refl b8.if-tag-eq1.true b3.read_node-r.ensures c.if-r-ne0.true)
+    rw c.refuse-then-r-ne0.ensures (node-refused _ _ _ _ c.loop-at.invariant _ _ _ _ _ found refl c.if-tag-eq1.true c.read_node-r.ensures c.if-r-ne0.true)
 
 pub offset_bounds-nodes-n : goal.offset_bounds-nodes-n
 offset_bounds-nodes-n c =
     let found : field_at c.args.s.now c.loop-at.at ≡ Whole c.in-Whole.tag c.in-Whole.start c.in-Whole.len c.in-Whole.next = sym c.read_field-f.ensures ∙ c.in-Whole.is in
-    let b3 = c.before.before.before in
-    let b8 = b3.before.before.before.before.before in
-    let b10 = b8.before.before in
-    let b15 = b10.before.before.before.before.before in
-    let p : b15.loop-at.n < node_limit = nodes-room _ _ _ _ b15.loop-at.invariant _ _ _ _ _ found refl b8.if-tag-eq1.true b3.read_node-r.ensures c.if-r-ne0.false in omega
-    (arith, b15.loop-at.invariant.state.good.long_nodes)
+    let p : c.loop-at.n < node_limit = nodes-room _ _ _ _ c.loop-at.invariant _ _ _ _ _ found refl c.if-tag-eq1.true c.read_node-r.ensures c.if-r-ne0.false in omega
+    (arith, c.loop-at.invariant.state.good.long_nodes)
 
 pub bounds-nodes-n : goal.bounds-nodes-n
 bounds-nodes-n c =
     let found : field_at c.args.s.now c.loop-at.at ≡ Whole c.in-Whole.tag c.in-Whole.start c.in-Whole.len c.in-Whole.next = sym c.read_field-f.ensures ∙ c.in-Whole.is in
-    let b3 = c.before.before.before in
-    let b8 = b3.before.before.before.before.before in
-    let b10 = b8.before.before in
-    let b15 = b10.before.before.before.before.before in
-    let p : b15.loop-at.n < node_limit = nodes-room _ _ _ _ b15.loop-at.invariant _ _ _ _ _ found refl b8.if-tag-eq1.true b3.read_node-r.ensures c.if-r-ne0.false in omega
-    (arith, b15.loop-at.invariant.state.good.long_nodes)
+    let p : c.loop-at.n < node_limit = nodes-room _ _ _ _ c.loop-at.invariant _ _ _ _ _ found refl c.if-tag-eq1.true c.read_node-r.ensures c.if-r-ne0.false in omega
+    (arith, c.loop-at.invariant.state.good.long_nodes)
 
 pub overflow_add-n : goal.overflow_add-n
 overflow_add-n c =
     let found : field_at c.args.s.now c.loop-at.at ≡ Whole c.in-Whole.tag c.in-Whole.start c.in-Whole.len c.in-Whole.next = sym c.read_field-f.ensures ∙ c.in-Whole.is in
-    let b3 = c.before.before.before in
-    let b8 = b3.before.before.before.before.before in
-    let b10 = b8.before.before in
-    let b15 = b10.before.before.before.before.before in
-    let p : b15.loop-at.n < node_limit = nodes-room _ _ _ _ b15.loop-at.invariant _ _ _ _ _ found refl b8.if-tag-eq1.true b3.read_node-r.ensures c.if-r-ne0.false in omega
-    (arith, b15.loop-at.invariant.state.good.long_nodes)
+    let p : c.loop-at.n < node_limit = nodes-room _ _ _ _ c.loop-at.invariant _ _ _ _ _ found refl c.if-tag-eq1.true c.read_node-r.ensures c.if-r-ne0.false in omega
+    (arith, c.loop-at.invariant.state.good.long_nodes)
 
 pub loop-at-smaller-then-tag-eq1 : goal.loop-at-smaller-then-tag-eq1
 loop-at-smaller-then-tag-eq1 c =
     let found : field_at c.args.s.now c.loop-at.at ≡ Whole c.in-Whole.tag c.in-Whole.start c.in-Whole.len c.in-Whole.next = sym c.read_field-f.ensures ∙ c.in-Whole.is in
     let where-is : Placed c.args.s.now c.loop-at.at c.in-Whole.start c.in-Whole.len c.in-Whole.next = placed _ _ found in
-    let b10 = c.before.before.before.before.before.before.before.before.before.before in
-    let b14 = b10.before.before.before.before in
-    let p = where-is in omega (arith, b14.loop-at-test.true)
+    let p = where-is in omega (arith, c.loop-at-test.true)
 
 pub loop-at-preserved-then-tag-eq1 : goal.loop-at-preserved-then-tag-eq1
 loop-at-preserved-then-tag-eq1 c =
     let found : field_at c.args.s.now c.loop-at.at ≡ Whole c.in-Whole.tag c.in-Whole.start c.in-Whole.len c.in-Whole.next = sym c.read_field-f.ensures ∙ c.in-Whole.is in
-    let b3 = c.before.before.before in
-    let b8 = b3.before.before.before.before.before in
-    let b10 = b8.before.before in
-    let b15 = b10.before.before.before.before.before in
-    node-turn _ _ _ _ b15.loop-at.invariant _ _ _ _ _ found refl b8.if-tag-eq1.true b3.read_node-r.ensures c.if-r-ne0.false
+    node-turn _ _ _ _ c.loop-at.invariant _ _ _ _ _ found refl c.if-tag-eq1.true c.read_node-r.ensures c.if-r-ne0.false
 
 pub root_number-e-requires : goal.root_number-e-requires
 root_number-e-requires c = (c.if-tag-eq1.false, c.loop-at.invariant.state.named.long)
@@ -102,10 +69,7 @@ root_number-e-requires c = (c.if-tag-eq1.false, c.loop-at.invariant.state.named.
 pub returns-then-e-ne0 : goal.returns-then-e-ne0
 returns-then-e-ne0 c =
     let found : field_at c.args.s.now c.loop-at.at ≡ Whole c.in-Whole.tag c.in-Whole.start c.in-Whole.len c.in-Whole.next = sym c.read_field-f.ensures ∙ c.in-Whole.is in
-    let b4 = c.before.before.before.before in
-    let b6 = b4.before.before in
-    let b11 = b6.before.before.before.before.before in
-    rw c.refuse-then-e-ne0.ensures (root-refused _ _ _ _ b11.loop-at.invariant _ _ _ _ _ found refl b4.if-tag-eq1.false c.root_number-e.ensures c.if-e-ne0.true)
+    rw c.refuse-then-e-ne0.ensures (root-refused _ _ _ _ c.loop-at.invariant _ _ _ _ _ found refl c.if-tag-eq1.false c.root_number-e.ensures c.if-e-ne0.true)
 
 pub overflow_sub-s : goal.overflow_sub-s
 overflow_sub-s c =
@@ -119,65 +83,37 @@ ended-requires c = rw c.hold-t.ensures c.loop-at.invariant.state.good.n
 pub returns-then-tag-eq3 : goal.returns-then-tag-eq3
 returns-then-tag-eq3 c =
     let found : field_at c.args.s.now c.loop-at.at ≡ Whole c.in-Whole.tag c.in-Whole.start c.in-Whole.len c.in-Whole.next = sym c.read_field-f.ensures ∙ c.in-Whole.is in
-    let b3 = c.before.before.before in
-    let b4 = b3.before in
-    let b5 = b4.before in
-    let b6 = b5.before in
-    let b8 = b6.before.before in
-    let b10 = b8.before.before in
-    let b15 = b10.before.before.before.before.before in
-    rw (c.ended.ensures, c.hold-t.ensures) (ends-turn _ _ _ _ b15.loop-at.invariant _ _ _ _ _ found refl b8.if-tag-eq1.false b6.root_number-e.ensures
-    b5.if-e-ne0.false b3.if-tag-eq3.true b4.get-first.ensures)
+    rw (c.ended.ensures, c.hold-t.ensures) (ends-turn _ _ _ _ c.loop-at.invariant _ _ _ _ _ found refl c.if-tag-eq1.false c.root_number-e.ensures
+    c.if-e-ne0.false c.if-tag-eq3.true c.get-first.ensures)
 
 pub bounds-counts-defs : goal.bounds-counts-defs
 bounds-counts-defs c =
     let found : field_at c.args.s.now c.loop-at.at ≡ Whole c.in-Whole.tag c.in-Whole.start c.in-Whole.len c.in-Whole.next = sym c.read_field-f.ensures ∙ c.in-Whole.is in
-    let b3 = c.before.before.before in
-    let b5 = b3.before.before in
-    let b7 = b5.before.before in
-    let b12 = b7.before.before.before.before.before in
-    let p : b12.loop-at.defs < definition_limit = defs-room _ _ _ _ b12.loop-at.invariant _ _ _ _ _ found refl b5.if-tag-eq1.false b3.root_number-e.ensures
-    c.if-e-ne0.false c.if-tag-eq3.false in omega (arith, b12.loop-at.invariant.state.good.long_counts, b12.loop-at.invariant.state.good.long_bodies)
+    let p : c.loop-at.defs < definition_limit = defs-room _ _ _ _ c.loop-at.invariant _ _ _ _ _ found refl c.if-tag-eq1.false c.root_number-e.ensures
+    c.if-e-ne0.false c.if-tag-eq3.false in omega (arith, c.loop-at.invariant.state.good.long_counts, c.loop-at.invariant.state.good.long_bodies)
 
 pub bounds-bodies-defs : goal.bounds-bodies-defs
 bounds-bodies-defs c =
     let found : field_at c.args.s.now c.loop-at.at ≡ Whole c.in-Whole.tag c.in-Whole.start c.in-Whole.len c.in-Whole.next = sym c.read_field-f.ensures ∙ c.in-Whole.is in
-    let b3 = c.before.before.before in
-    let b4 = b3.before in
-    let b6 = b4.before.before in
-    let b8 = b6.before.before in
-    let b13 = b8.before.before.before.before.before in
-    let p : b13.loop-at.defs < definition_limit = defs-room _ _ _ _ b13.loop-at.invariant _ _ _ _ _ found refl b6.if-tag-eq1.false b4.root_number-e.ensures b3.if-e-ne0.false
-    c.if-tag-eq3.false in omega (arith, b13.loop-at.invariant.state.good.long_counts, b13.loop-at.invariant.state.good.long_bodies)
+    let p : c.loop-at.defs < definition_limit = defs-room _ _ _ _ c.loop-at.invariant _ _ _ _ _ found refl c.if-tag-eq1.false c.root_number-e.ensures c.if-e-ne0.false
+    c.if-tag-eq3.false in omega (arith, c.loop-at.invariant.state.good.long_counts, c.loop-at.invariant.state.good.long_bodies)
 
 pub overflow_add-defs : goal.overflow_add-defs
 overflow_add-defs c =
     let found : field_at c.args.s.now c.loop-at.at ≡ Whole c.in-Whole.tag c.in-Whole.start c.in-Whole.len c.in-Whole.next = sym c.read_field-f.ensures ∙ c.in-Whole.is in
-    let b3 = c.before.before.before in
-    let b4 = b3.before in
-    let b6 = b4.before.before in
-    let b8 = b6.before.before in
-    let b13 = b8.before.before.before.before.before in
-    let p : b13.loop-at.defs < definition_limit = defs-room _ _ _ _ b13.loop-at.invariant _ _ _ _ _ found refl b6.if-tag-eq1.false b4.root_number-e.ensures b3.if-e-ne0.false
-    c.if-tag-eq3.false in omega (arith, b13.loop-at.invariant.state.good.long_counts, b13.loop-at.invariant.state.good.long_bodies)
+    let p : c.loop-at.defs < definition_limit = defs-room _ _ _ _ c.loop-at.invariant _ _ _ _ _ found refl c.if-tag-eq1.false c.root_number-e.ensures c.if-e-ne0.false
+    c.if-tag-eq3.false in omega (arith, c.loop-at.invariant.state.good.long_counts, c.loop-at.invariant.state.good.long_bodies)
 
 pub loop-at-smaller : goal.loop-at-smaller
 loop-at-smaller c =
     let found : field_at c.args.s.now c.loop-at.at ≡ Whole c.in-Whole.tag c.in-Whole.start c.in-Whole.len c.in-Whole.next = sym c.read_field-f.ensures ∙ c.in-Whole.is in
     let where-is : Placed c.args.s.now c.loop-at.at c.in-Whole.start c.in-Whole.len c.in-Whole.next = placed _ _ found in
-    let b8 = c.before.before.before.before.before.before.before.before in
-    let b12 = b8.before.before.before.before in
-    let p = where-is in omega (arith, b12.loop-at-test.true)
+    let p = where-is in omega (arith, c.loop-at-test.true)
 
 pub loop-at-preserved : goal.loop-at-preserved
 loop-at-preserved c =
     let found : field_at c.args.s.now c.loop-at.at ≡ Whole c.in-Whole.tag c.in-Whole.start c.in-Whole.len c.in-Whole.next = sym c.read_field-f.ensures ∙ c.in-Whole.is in
-    let b3 = c.before.before.before in
-    let b4 = b3.before in
-    let b6 = b4.before.before in
-    let b8 = b6.before.before in
-    let b13 = b8.before.before.before.before.before in
-    define-turn _ _ _ _ b13.loop-at.invariant _ _ _ _ _ found refl b6.if-tag-eq1.false b4.root_number-e.ensures b3.if-e-ne0.false c.if-tag-eq3.false
+    define-turn _ _ _ _ c.loop-at.invariant _ _ _ _ _ found refl c.if-tag-eq1.false c.root_number-e.ensures c.if-e-ne0.false c.if-tag-eq3.false
     c.get-first.ensures c.get.ensures
 
 pub returns : goal.returns

@@ -18,19 +18,18 @@ pub loop-at-init : goal.loop-at-init
 loop-at-init c = begin c.requires
 
 pub shape_of-net-in_default : goal.shape_of-net-in_default
-shape_of-net-in_default c = let m = c.before in m.loop-at.invariant.whole ∙ sym m.requires.ready.whole
+shape_of-net-in_default c = c.loop-at.invariant.whole ∙ sym c.requires.ready.whole
 
 pub shape_of-space-in_default : goal.shape_of-space-in_default
 shape_of-space-in_default c = c.loop-at.invariant.wide
 
 -- no list that was read is cut short
+
 pub returns-in_default : goal.returns-in_default
 returns-in_default c =
-    let m = c.before in
-    let g = m.before.before in
-    let e = sym m.read_field-f.ensures in
-    ⊎_elim (λ q. absurd (not-cut g.loop-at.invariant (e ∙ q))) (λ q. absurd (before-end g.args.list.now g.loop-at.at g.loop-at-test.true (e ∙ q)))
-    (not-whole _ m.in_default.not-Whole)
+    let e = sym c.read_field-f.ensures in
+    ⊎_elim (λ q. absurd (not-cut c.loop-at.invariant (e ∙ q))) (λ q. absurd (before-end c.args.list.now c.loop-at.at c.loop-at-test.true (e ∙ q)))
+    (not-whole _ c.in_default.not-Whole)
 
 pub event_of-e-requires : goal.event_of-e-requires
 event_of-e-requires c =
@@ -40,9 +39,8 @@ event_of-e-requires c =
 
 pub do_event-r-requires : goal.do_event-r-requires
 do_event-r-requires c =
-    let l = c.before in
     let r = c.requires.ready in
-    (record { whole = l.loop-at.inv.whole; idle = l.loop-at.inv.idle; sound = r.sound; inside = r.inside; sort = r.sort }, l.loop-at.inv.lit)
+    (record { whole = c.loop-at.inv.whole; idle = c.loop-at.inv.idle; sound = r.sound; inside = r.inside; sort = r.sort }, c.loop-at.inv.lit)
 
 pub overflow_mul-code : goal.overflow_mul-code
 overflow_mul-code c =
@@ -101,14 +99,13 @@ loop-at-smaller c =
 pub loop-at-preserved : goal.loop-at-preserved
 loop-at-preserved c =
     let whole-at : field_at c.args.list.now c.loop-at.at ≡ Whole c.in-Whole.tag c.in-Whole.start c.in-Whole.len c.in-Whole.next = sym c.read_field-f.ensures ∙ c.in-Whole.is in
-    let n = c.before in
-    let d = n.do_event-r in
-    let e = n.event_of-e in
+    let d = c.do_event-r in
+    let e = c.event_of-e in
     rw (to_z-of_z {z = d.result.code} (sfits_of c.struct_told-1.given.0.1), to_z-of_z {z = d.result.value} (sfits_of c.struct_told-in-loop-at-1.given.1.0.1))
-    (next-turn c.loop-at.inv whole-at e.result d.result _ n.net-1.given e.ensures d.ensures)
+    (next-turn c.loop-at.inv whole-at e.result d.result _ c.net-1.given e.ensures d.ensures)
 
 pub shape_of-net : goal.shape_of-net
-shape_of-net c = let m = c.before in m.loop-at.invariant.whole ∙ sym m.requires.ready.whole
+shape_of-net c = c.loop-at.invariant.whole ∙ sym c.requires.ready.whole
 
 pub shape_of-space : goal.shape_of-space
 shape_of-space c = c.loop-at.invariant.wide
