@@ -1,4 +1,4 @@
-//! Finds `libcuddystove.a`: in the folder CUDDYSTOVE_LIB, else where `rt staticlib cuddystove` writes it. A relative
+//! Finds `libcuddystove.a`: in the folder CUDDYSTOVE_LIB, else where `tools/build library` puts it. A relative
 //! folder is one of the repository, as cargo runs this script in the package's own, and not where it was started.
 //!
 //! `cargo check` and `cargo doc` don't link, and go on without a library that nobody named; `cargo build` then fails.
@@ -16,8 +16,8 @@ fn main() {
         let key = if named.is_some() { "error" } else { "warning" };
         let looked = folder.display();
         println!(
-            "cargo::{key}=libcuddystove.a is not in {looked}: make it with `rt staticlib cuddystove`, which writes \
-             it to target/staticlib, or set CUDDYSTOVE_LIB to its folder (a relative one is one of the repository)"
+            "cargo::{key}=libcuddystove.a is not in {looked}: make it with `tools/build library`, which puts \
+             it into target/staticlib, or set CUDDYSTOVE_LIB to its folder (a relative one is one of the repository)"
         );
     }
     println!("cargo::rustc-link-search=native={}", folder.display());

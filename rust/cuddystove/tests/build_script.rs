@@ -6,7 +6,7 @@ use std::{env, fs};
 
 const VERSION: &str = env!("CARGO_PKG_VERSION");
 const MISSING: &str = "libcuddystove.a is not in";
-const MADE_BY: &str = "make it with `rt staticlib cuddystove`";
+const MADE_BY: &str = "make it with `tools/build library`";
 
 /// A repository with this package in rust/cuddystove, and nothing else.
 fn repository(name: &str) -> PathBuf {
@@ -77,7 +77,7 @@ fn an_absolute_folder() {
     assert!(succeeded && said.contains("test result: ok"), "{said}");
 }
 
-/// Without CUDDYSTOVE_LIB, or with an empty one, the library is looked for where `rt staticlib` writes it.
+/// Without CUDDYSTOVE_LIB, or with an empty one, the library is looked for where `tools/build library` puts it.
 #[test]
 fn no_folder() {
     let root = repository("own");
