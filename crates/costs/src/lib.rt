@@ -36,7 +36,7 @@ fn fifteen(x: u32) -> u32
 }
 
 // The cost of a body, counted once and noted.
-#[cycle(body_cost_noted_part)]
+#[cycle(counting)]
 fn noted(ws: &[u64; layout::NODES], notes: &mut [u32; layout::NODES], b: usize) -> u32
     requires { Asks ws.now notes.old b }
     ensures { Gives ws.now notes.new result (costOf (tree_at ws.now b)) }
@@ -52,7 +52,7 @@ fn noted(ws: &[u64; layout::NODES], notes: &mut [u32; layout::NODES], b: usize) 
 
 // Each of the three adds to a sum. The cost of operand j of node n, 0 where it has none. A node that names none is
 // counted where it is named.
-#[cycle(body_cost_noted_part)]
+#[cycle(counting)]
 fn part(
     ws: &[u64; layout::NODES],
     notes: &mut [u32; layout::NODES],
@@ -75,7 +75,7 @@ fn part(
 }
 
 // What the body that node n calls or folds by adds.
-#[cycle(body_cost_noted_part)]
+#[cycle(counting)]
 fn body(ws: &[u64; layout::NODES], notes: &mut [u32; layout::NODES], n: usize, sum: u32) -> u32
     requires { Asks ws.now notes.old n × (sum ≤ cap) }
     ensures { Gives ws.now notes.new result (sum + body_cost ws.now (word ws.now n)) }
@@ -95,7 +95,7 @@ fn body(ws: &[u64; layout::NODES], notes: &mut [u32; layout::NODES], n: usize, s
 }
 
 // The cost of node n. Operand 0 comes last, as a call that is a jump.
-#[cycle(body_cost_noted_part)]
+#[cycle(counting)]
 fn cost(ws: &[u64; layout::NODES], notes: &mut [u32; layout::NODES], n: usize, sum: u32) -> u32
     requires { Asks ws.now notes.old n × (sum ≤ cap) }
     ensures { Gives ws.now notes.new result (sum + costOf (tree_at ws.now n)) }

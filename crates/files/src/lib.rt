@@ -3,6 +3,10 @@
 
 ghost use Rattle.files.specs.Whole.{Shorter};
 
+use std::fs;
+use std::io::Read;
+use std::rt::Files;
+
 #[derive(Drop)]
 pub enum Whole {
     Bytes(usize),
@@ -10,16 +14,14 @@ pub enum Whole {
 }
 
 // Reads to the end. A file that fills the buffer may have more bytes than it, and is refused, as is one that cannot be read.
-fn read_open(fd: i32, buf: &mut [u8]) -> Whole
+fn read_open<F: Read>(file: &mut F, buf: &mut [u8]) -> Whole
     ensures { Shorter result buf.new }
 {
     let mut at: usize = 0;
     while at < buf.len() {
-        let got = libc::read(fd, &mut buf[at..]);
-        if got < 0 {
+        let Ok(n) = file.read(&mut buf[at..]) else {
             return Whole::Refused;
-        }
-        let n = io::count(got, &buf[at..]);
+        };
         if n == 0 {
             return Whole::Bytes(at); // the end
         }
@@ -29,14 +31,15 @@ fn read_open(fd: i32, buf: &mut [u8]) -> Whole
 }
 
 // The bytes of the file of that name, or Refused where it is absent, cannot be read, or is not shorter than the buffer.
-pub fn read(path: &[u8], buf: &mut [u8]) -> Whole
+// std's paths are text, so a name that is not UTF-8 is Refused too.
+pub fn read<R: Files>(rt: &R, path: &[u8], buf: &mut [u8]) -> Whole
     ensures { Shorter result buf.new }
 {
-    let fd = os::open_read(path);
-    if fd < 0 {
+    let Ok(name) = str::from_utf8(path) else {
         return Whole::Refused;
-    }
-    let w = read_open(fd, buf);
-    libc::close(fd);
-    w
+    };
+    let Ok(mut file) = fs::open(rt, name) else {
+        return Whole::Refused;
+    };
+    read_open(&mut file, buf)
 }

@@ -96,11 +96,10 @@ module _ (s : List ℕ) (at n : ℕ) (g : Going s at n) where
         }
 
 -- ---- a field that is not whole
-pub not-whole : (f : Field) → (tag_of (declared enum) f ≡ 1) ⊎ (tag_of (declared enum) f ≡ 2) → (f ≡ Cut) ⊎ (f ≡ End)
+pub not-whole : (f : Field) → ((tag start len next : ℕ) → f ≡ Whole tag start len next → ⊥) → (f ≡ Cut) ⊎ (f ≡ End)
 not-whole Cut k = inl refl
 not-whole End k = inr refl
-not-whole (Whole tag start len next) (inl e) = absurd (eqb-false 0 1 refl e)
-not-whole (Whole tag start len next) (inr e) = absurd (eqb-false 0 2 refl e)
+not-whole (Whole tag start len next) k = absurd (k tag start len next refl)
 
 -- ---- a list of one event
 module _ (s : List ℕ) where

@@ -7,7 +7,6 @@ use Prim.Native.Nat.{ℕ, zero, suc, ◌+◌, ◌-◌, ◌*◌, ◌≤◌, ◌<�
 use native.Mathlib.Omega.{arith}
 use lib.ListN.{length, get_or, take, drop, set, length-drop}
 use lib.Dec.{eqb, leb}
-use denote.Enum.Declared.{tag_of, declared}
 use borrow.Author.Tests.{eqb-true, eqb-false, eq-eqb, ne_eqb}
 use Rattle.wire.specs.Wire as wire
 use Rattle.wire.specs.Wire.{Fields, cut, fields_in, fields_of}
@@ -259,15 +258,14 @@ module _ (s : List ℕ) (t : Table) (m : Taken) (at : ℕ) (g : Going s t m at) 
   end-turn h = is-refused s 6 0 empty_table (turn End (sym (at-end s at h))).same (λ e. omega arith)
 
   -- a field that is not whole
-  pub broken-turn : {f : Field} → f ≡ field_at s at → (tag_of (declared enum) f ≡ 1) ⊎ (tag_of (declared enum) f ≡ 2) → at < length s → Loads s (refusal 1 fields)
+  pub broken-turn : {f : Field} → f ≡ field_at s at → ((tag start len next : ℕ) → f ≡ Whole tag start len next → ⊥) → at < length s → Loads s (refusal 1 fields)
   unfolding load_from
   broken-turn {f} e k h = go f k e
     where
-      go : (f : Field) → (tag_of (declared enum) f ≡ 1) ⊎ (tag_of (declared enum) f ≡ 2) → f ≡ field_at s at → Loads s (refusal 1 fields)
+      go : (f : Field) → ((tag start len next : ℕ) → f ≡ Whole tag start len next → ⊥) → f ≡ field_at s at → Loads s (refusal 1 fields)
       go Cut k e = is-refused s 1 fields empty_table (turn Cut e).same (λ e. omega arith)
       go End k e = absurd (before-end s at h (sym e))
-      go (Whole tag start len next) (inl k) e = absurd (eqb-false 0 1 refl k)
-      go (Whole tag start len next) (inr k) e = absurd (eqb-false 0 2 refl k)
+      go (Whole tag start len next) k e = absurd (k tag start len next refl)
 
   -- a whole field
   module _ (tag start len next : ℕ) (b : List ℕ) (w : field_at s at ≡ Whole tag start len next) (p : b ≡ take (next - start) (drop start s)) where

@@ -20,29 +20,29 @@ abbrev Shared : Word → List Symbol → ℕ → Type 0
 Shared w st c = viable (segment c ++ st) [] w ≡ class_front (class_of c) w
 
 outer-shared : (w : Word) (c : ℕ) → c < 2 → Shared w [] c
-outer-shared w c h = each 2 (Shared w []) (front-viable _ atoms w refl ▹ front-nothing _ w refl ▹ tt) c h
+outer-shared w c h = each 2 (Shared w []) (front-viable (segment 0 ++ []) atoms w refl ▹ front-nothing (segment 1 ++ []) w refl ▹ tt) c h
 
 inner-shared : (w : Word) (st : List Symbol) (c : ℕ) → c < 18 → leb 2 c ≡ true → Shared w st c
 inner-shared w st c h =
     each 18 (λ c. leb 2 c ≡ true → Shared w st c) (
     (λ n. not-both (sym n))
     ▹ (λ n. not-both (sym n))
-    ▹ (λ n. front-viable _ heads w refl)
-    ▹ (λ n. front-viable _ openers w refl)
-    ▹ (λ n. front-viable _ atoms w refl)
-    ▹ (λ n. front-nothing _ w refl)
-    ▹ (λ n. front-viable _ atoms w refl)
-    ▹ (λ n. front-viable _ atoms w refl)
-    ▹ (λ n. front-viable _ atoms w refl)
-    ▹ (λ n. front-viable _ binders w refl)
-    ▹ (λ n. front-viable _ functions w refl)
-    ▹ (λ n. front-viable _ binders w refl)
-    ▹ (λ n. front-nothing _ w refl)
-    ▹ (λ n. front-nothing _ w refl)
-    ▹ (λ n. front-viable _ binders w refl)
-    ▹ (λ n. front-viable _ binders w refl)
-    ▹ (λ n. front-viable _ binders w refl)
-    ▹ (λ n. front-viable _ binders w refl)
+    ▹ (λ n. front-viable (segment 2 ++ st) heads w refl)
+    ▹ (λ n. front-viable (segment 3 ++ st) openers w refl)
+    ▹ (λ n. front-viable (segment 4 ++ st) atoms w refl)
+    ▹ (λ n. front-nothing (segment 5 ++ st) w refl)
+    ▹ (λ n. front-viable (segment 6 ++ st) atoms w refl)
+    ▹ (λ n. front-viable (segment 7 ++ st) atoms w refl)
+    ▹ (λ n. front-viable (segment 8 ++ st) atoms w refl)
+    ▹ (λ n. front-viable (segment 9 ++ st) binders w refl)
+    ▹ (λ n. front-viable (segment 10 ++ st) functions w refl)
+    ▹ (λ n. front-viable (segment 11 ++ st) binders w refl)
+    ▹ (λ n. front-nothing (segment 12 ++ st) w refl)
+    ▹ (λ n. front-nothing (segment 13 ++ st) w refl)
+    ▹ (λ n. front-viable (segment 14 ++ st) binders w refl)
+    ▹ (λ n. front-viable (segment 15 ++ st) binders w refl)
+    ▹ (λ n. front-viable (segment 16 ++ st) binders w refl)
+    ▹ (λ n. front-viable (segment 17 ++ st) binders w refl)
     ▹ tt
     ) c h
 

@@ -8,7 +8,7 @@ ghost use Rattle.lines.specs.Text.{Begins};
 ghost use Rattle.shift.specs.Replayed.{file_size, text_room};
 ghost use Rattle.replay.specs.Text.{text_of, Printed};
 
-use libc::{STDERR_FILENO, STDOUT_FILENO};
+use std::rt::Files;
 
 // One byte more than a replay file may have.
 const LONGER: usize = layout::FILE + 1;
@@ -35,24 +35,24 @@ fn text(
 }
 
 // Reads both files, and puts their text at the start of `out`: how many bytes it has.
-fn replay(program: &mut [u8], list: &mut [u8], out: &mut [u8]) -> usize
+fn replay<R: Files>(rt: &R, program: &mut [u8], list: &mut [u8], out: &mut [u8]) -> usize
     requires program_len { (length program.old ≡ 1 + file_size) × (length list.old ≡ 1 + file_size) }
     requires text_room_in_bounds { text_room ≤ length out.old }
     ensures prefix_len { IsPrefixLen result out.new }
     ensures printed { Printed program.new list.new out.new result }
 {
-    let first = files::read(b"program.pf", program);
-    let second = files::read(b"events.pf", list);
+    let first = files::read(rt, b"program.pf", program);
+    let second = files::read(rt, b"events.pf", list);
     text(first, second, program, list, out)
 }
 
-fn main() {
+fn main(rt: HostRuntime) {
     let mut program = [0u8; LONGER];
     let mut list = [0u8; LONGER];
     let mut out = [0u8; shift::ROOM];
-    let n = replay(&mut program, &mut list, &mut out);
-    let is_written = io::write_all(STDOUT_FILENO, &out[..n]);
+    let n = replay(&rt, &mut program, &mut list, &mut out);
+    let is_written = rt.stdout().write_all(&out[..n]).is_ok();
     if !is_written {
-        io::write_all(STDERR_FILENO, b"replay: cannot write\n");
+        let _ = rt.stderr().write_all(b"replay: cannot write\n");
     }
 }

@@ -1,8 +1,7 @@
 -- A node offends by its use as the columns say, and the flags of called definitions go on. Assumes nothing.
-use mathlib.Core.Path.{◌≡◌, refl, sym, ap, ◌∙◌}
+use mathlib.Core.Path.{◌≡◌, refl, sym, ap, subst, ◌∙◌}
 use mathlib.Core.Bool.{Bool, true, false, not, ◌&&◌, ◌||◌, or_assoc, or-false, and-true, and-false}
 use mathlib.Core.List.{List, [], ◌∷◌, ◌++◌}
-use mathlib.Core.Option.{none}
 use Prim.Native.Nat.{ℕ, zero, suc, ◌+◌, ◌≤◌, ◌<◌}
 use native.Mathlib.Numerals.{add-one}
 use native.Mathlib.Omega.{arith}
@@ -81,7 +80,8 @@ more-flags {kinds} {items} {called} {n} {d} {b} m l e q =
   where
     go : (k : ℕ) → k < node_limit → (x : Bool) → eqb k d ≡ x → get_or (set called d b) k false ≡ called_below kinds items k (suc n)
     go k h true f =
-        rw (eqb-true k d f) (get_or-set_same called d b false (omega (arith, m.long)) ∙ q
+        subst (λ (i : ℕ). get_or (set called d b) i false ≡ called_below kinds items i (suc n)) (sym (eqb-true k d f))
+        (get_or-set_same called d b false (omega (arith, m.long)) ∙ q
         ∙ rw (m.flag d l, eq-eqb (get_or items n 0) d (sym e)) (ap (λ (x : Bool). called_below kinds items d n || x) (sym (and-true (is_call (get_or kinds n 0))))))
     go k h false f =
         get_or-set_other called d k b false (eqb-false k d f) ∙ m.flag k h

@@ -58,7 +58,7 @@ fn with_own(w: u64, scope: u16) -> u16
 
 // Each of the two: the lower of `best` and the lowest node that misreads. Operand 0 comes last, as a call that is a jump; a
 // node that names none is looked at where it is named.
-#[cycle(part_walk)]
+#[cycle(walking)]
 fn part(ws: &[u64; layout::NODES], n: usize, j: u32, count: u8, scope: u16, best: u16) -> u16
     requires { (j < 4) × (n < node_limit) × AllFormed ws.now }
     ensures { Lowest count scope (part_of ws.now (word ws.now n) j) best result }
@@ -76,7 +76,7 @@ fn part(ws: &[u64; layout::NODES], n: usize, j: u32, count: u8, scope: u16, best
 }
 
 // In the tree of node n. Called definitions are not entered.
-#[cycle(part_walk)]
+#[cycle(walking)]
 fn walk(ws: &[u64; layout::NODES], n: usize, count: u8, scope: u16, best: u16) -> u16
     requires { (n < node_limit) × AllFormed ws.now }
     ensures { Lowest count scope (tree_at ws.now n) best result }

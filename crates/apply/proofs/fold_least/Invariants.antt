@@ -12,7 +12,7 @@ use Rattle.apply.proofs.fold_least.Given as goal
 
 -- what is left to fold comes to what the whole does, and has the turns that are to come
 abbrev pub invariant-loop-more : goal.invariant-loop-more
-invariant-loop-more l = ((s : State) → along lessens (members l.more.bits) l.cells (to_z w32 l.least) s ≡ folded lessens (field_of l.initial.more.bits l.cells) (to_z w32 l.from) s) × Turned l.initial.more.bits l.more.bits l.count
+invariant-loop-more l = ((s : State) → along lessens (members l.more.bits) l.cells l.least s ≡ folded lessens (field_of l.initial.more.bits l.cells) l.from s) × Turned l.initial.more.bits l.more.bits l.count
 
 abbrev pub decreases-loop-more : goal.decreases-loop-more
 decreases-loop-more l = l.more.bits

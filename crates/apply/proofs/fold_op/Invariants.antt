@@ -20,7 +20,7 @@ by n o x y s = on_numbers n (operator_of o) x y s
 
 -- what is left to fold comes to what the whole does, and has the turns that are to come
 abbrev pub invariant-loop-left : goal.invariant-loop-left
-invariant-loop-left l = (along (by l.n l.o) (members l.left.bits) l.cells (to_z w32 l.acc) (state_of l.st) ≡ folded (by l.n l.o) (field_of l.initial.left.bits l.cells) (to_z w32 l.from) (state_of l.initial.st))
+invariant-loop-left l = (along (by l.n l.o) (members l.left.bits) l.cells l.acc (state_of l.st) ≡ folded (by l.n l.o) (field_of l.initial.left.bits l.cells) l.from (state_of l.initial.st))
     × Turned l.initial.left.bits l.left.bits l.turns
     × (fault_of l.st ≡ pos 0)
 

@@ -10,80 +10,68 @@ use Rattle.calls.specs.Carried.{read_by}
 use Rattle.calls.proofs.Laws.{no_number, of-verdict, of-events, by-program, by-network, by-list, by-room, tested, carried}
 use Rattle.calls.proofs.carry_out.Goals as goal
 
--- `calls::carry_out` meets its contract. Assumes nothing.
--- the call's arguments, and how its list is read
-abbrev program : tie.Start → List ℕ
-program s = s.args.program.now
-
-abbrev network : tie.Start → List ℤ
-network s = s.args.network.now
-
-abbrev read : tie.Start → Read
-read s = read_by s.args.single s.args.list.now
-
-abbrev space : tie.Start → List ℤ
-space s = s.args.space.now
-
--- behind each test: the one before it
-abbrev start : tie.After-struct-known → tie.Start
-start c = c.before.before.before.before.before.before
-
-abbrev first : tie.After-struct-known2 → tie.Else1
-first c = c.before.before.before
-
-abbrev second : tie.After-struct-known3 → tie.Else2
-second c = c.before.before
-
--- and what it says
-program-good : (c : tie.Else1) → (check (program (start c.before))).0 ≡ 0
-program-good c = no_number c.before.before.prepare.ensures.verdict c.if1.false
-
-network-sound : (c : tie.Else2) → (soundness (network (start (first c.before).before))).0 ≡ 0
-network-sound c = no_number c.before.before.soundness.ensures c.if2.false
-
 pub returns-then-p-ne0 : goal.returns-then-p-ne0
 returns-then-p-ne0 c =
-    let s = start c in
-    by-program (program s) (network s) (read s) (space s) c.refused.result (c.refused.ensures ∙ c.prepare-p.ensures.verdict)
+    let program : List ℕ = c.args.program.now in
+    let network : List ℤ = c.args.network.now in
+    let read : Read = read_by c.args.single c.args.list.now in
+    let space : List ℤ = c.args.space.now in
+    by-program program network read space c.refused.result (c.refused.ensures ∙ c.prepare-p.ensures.verdict)
     (λ z. c.if-p-ne0.true (no_number c.refused.ensures z))
 
 pub returns-then-sound-ne0 : goal.returns-then-sound-ne0
 returns-then-sound-ne0 c =
-    let p = first c in
-    let s = start p.before in
+    let program : List ℕ = c.args.program.now in
+    let network : List ℤ = c.args.network.now in
+    let read : Read = read_by c.args.single c.args.list.now in
+    let space : List ℤ = c.args.space.now in
+    let program-good : (check program).0 ≡ 0 = no_number c.prepare-p.ensures.verdict c.if-p-ne0.false in
     let r = c.soundness-sound in
-    by-network (program s) (network s) (read s) (space s) r.result (program-good p) r.ensures c.if-sound-ne0.true
+    by-network program network read space r.result program-good r.ensures c.if-sound-ne0.true
 
 pub returns-then-counted-ne0 : goal.returns-then-counted-ne0
 returns-then-counted-ne0 c =
-    let n = second c in
-    let p = first n.before in
-    let s = start p.before in
-    by-list (program s) (network s) (read s) (space s) c.refused-then-counted-ne0.result (program-good p) (network-sound n)
-    (c.refused-then-counted-ne0.ensures ∙ of-verdict (read s) _ c.count-counted.ensures) (λ z. c.if-counted-ne0.true (no_number c.refused-then-counted-ne0.ensures z))
+    let program : List ℕ = c.args.program.now in
+    let network : List ℤ = c.args.network.now in
+    let read : Read = read_by c.args.single c.args.list.now in
+    let space : List ℤ = c.args.space.now in
+    let program-good : (check program).0 ≡ 0 = no_number c.prepare-p.ensures.verdict c.if-p-ne0.false in
+    let network-sound : (soundness network).0 ≡ 0 = no_number c.soundness-sound.ensures c.if-sound-ne0.false in
+    by-list program network read space c.refused-then-counted-ne0.result program-good network-sound
+    (c.refused-then-counted-ne0.ensures ∙ of-verdict read _ c.count-counted.ensures) (λ z. c.if-counted-ne0.true (no_number c.refused-then-counted-ne0.ensures z))
 
 pub returns-then-space-counted : goal.returns-then-space-counted
 returns-then-space-counted c =
-    let n = second c in
-    let p = first n.before in
-    let s = start p.before in
+    let program : List ℕ = c.args.program.now in
+    let network : List ℤ = c.args.network.now in
+    let read : Read = read_by c.args.single c.args.list.now in
+    let space : List ℤ = c.args.space.now in
+    let program-good : (check program).0 ≡ 0 = no_number c.prepare-p.ensures.verdict c.if-p-ne0.false in
+    let network-sound : (soundness network).0 ≡ 0 = no_number c.soundness-sound.ensures c.if-sound-ne0.false in
     let k = c.count-counted in
-    by-room (program s) (network s) (read s) (space s) c.refused-then-space-counted.result (program-good p) (network-sound n) (no_number (of-verdict (read s) _ k.ensures) c.if-counted-ne0.false)
-    k.result.events (of-events (read s) _ k.ensures) c.refused-then-space-counted.ensures c.if-space-counted.true
+    by-room program network read space c.refused-then-space-counted.result program-good network-sound (no_number (of-verdict read _ k.ensures) c.if-counted-ne0.false)
+    k.result.events (of-events read _ k.ensures) c.refused-then-space-counted.ensures c.if-space-counted.true
 
 pub perform-requires : goal.perform-requires
 perform-requires c =
-    let n = second c in
-    let p = first n.before in
-    let s = start p.before in
-    tested (program s) (network s) s.args.list.now s.args.single (space s) (p.before.before.prepare.ensures.ready p.if1.left) (network-sound n)
+    let program : List ℕ = c.args.program.now in
+    let network : List ℤ = c.args.network.now in
+    let space : List ℤ = c.args.space.now in
+    let network-sound : (soundness network).0 ≡ 0 = no_number c.soundness-sound.ensures c.if-sound-ne0.false in
+    let p = c in
+    let s = c in
+    tested program network s.args.list.now s.args.single space (p.before.before.prepare.ensures.ready p.if1.left) network-sound
     c.count-counted.ensures c.if-counted-ne0.false c.if-space-counted.false
 
 pub returns : goal.returns
 returns c =
-    let n = second c in
-    let p = first n.before in
-    let s = start p.before in
-    carried (program s) (network s) s.args.list.now s.args.single (space s) (p.before.before.prepare.ensures.ready p.if1.left) (network-sound n)
+    let program : List ℕ = c.args.program.now in
+    let network : List ℤ = c.args.network.now in
+    let space : List ℤ = c.args.space.now in
+    let program-good : (check program).0 ≡ 0 = no_number c.prepare-p.ensures.verdict c.if-p-ne0.false in
+    let network-sound : (soundness network).0 ≡ 0 = no_number c.soundness-sound.ensures c.if-sound-ne0.false in
+    let p = c in
+    let s = c in
+    carried program network s.args.list.now s.args.single space (p.before.before.prepare.ensures.ready p.if1.left) network-sound
     c.count-counted.ensures c.if-counted-ne0.false c.if-space-counted.false
-    c.perform.result c.perform.ensures.0 (program-good p) c.perform.ensures.1
+    c.perform.result c.perform.ensures.0 program-good c.perform.ensures.1

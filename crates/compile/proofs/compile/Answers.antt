@@ -6,10 +6,6 @@ use Rattle.compile.specs.Writes.{Able}
 use Rattle.compile.proofs.Turning.{making-first, making-able, making-end, making-over, making-none, making-within, making-begun, making-less, making-full, making-next}
 use Rattle.compile.proofs.compile.Goals as goal
 
--- room for one part more, where the loop stands
-ready : (c : tie.At-loop invariant-loop decreases-loop) → Able c.loop.out c.loop.stack c.loop.o
-ready c = making-able c.before.before.args.s.now _ _ _ _ _ _ _ c.loop.invariant
-
 pub loop-at-init : goal.loop-at-init
 loop-at-init c = making-first c.args.s.now _ c.requires
 
@@ -17,10 +13,14 @@ pub next-l-requires : goal.next-l-requires
 next-l-requires c = c.loop-at.invariant.going.cut.within
 
 pub last-requires : goal.last-requires
-last-requires c = let a = ready c in (a.long, let x = a.waiting in omega (arith, x))
+last-requires c =
+    let ready : Able c.loop-at.out c.loop-at.stack c.loop-at.o = making-able c.args.s.now _ _ _ _ _ _ _ c.loop-at.invariant in
+    let a = ready in (a.long, let x = a.waiting in omega (arith, x))
 
 pub main_node-requires : goal.main_node-requires
-main_node-requires c = let a = ready c in (a.room, let x = a.small in omega (arith, x))
+main_node-requires c =
+    let ready : Able c.loop-at.out c.loop-at.stack c.loop-at.o = making-able c.args.s.now _ _ _ _ _ _ _ c.loop-at.invariant in
+    let a = ready in (a.room, let x = a.small in omega (arith, x))
 
 pub returns-then-kind-eq0 : goal.returns-then-kind-eq0
 returns-then-kind-eq0 c =
@@ -29,11 +29,11 @@ returns-then-kind-eq0 c =
 
 pub token_done-o-requires : goal.token_done-o-requires
 token_done-o-requires c =
-    let l = c in
+    let ready : Able c.loop-at.out c.loop-at.stack c.loop-at.o = making-able c.args.s.now _ _ _ _ _ _ _ c.loop-at.invariant in
     let s = c.args.s.now in
     let b = making-begun s _ _ _ _ _ _ _ c.loop-at.invariant _ c.next-l.ensures c.if-kind-eq0.false _ c.form_start-top.ensures in
     let w = making-within s _ _ _ _ _ _ _ c.loop-at.invariant _ c.next-l.ensures in
-    (b.0, w.1, w.2, b.1, ready l)
+    (b.0, w.1, w.2, b.1, ready)
 
 pub returns-then-full : goal.returns-then-full
 returns-then-full c =
@@ -66,10 +66,14 @@ loop-at-preserved c =
     c.depth_after-d.ensures c.token_code.ensures c.mode_after-m.ensures
 
 pub last-requires-2 : goal.last-requires-2
-last-requires-2 c = let a = ready c in (a.long, let x = a.waiting in omega (arith, x))
+last-requires-2 c =
+    let ready : Able c.loop-at.out c.loop-at.stack c.loop-at.o = making-able c.args.s.now _ _ _ _ _ _ _ c.loop-at.invariant in
+    let a = ready in (a.long, let x = a.waiting in omega (arith, x))
 
 pub main_node-requires-2 : goal.main_node-requires-2
-main_node-requires-2 c = let a = ready c in (a.room, let x = a.small in omega (arith, x))
+main_node-requires-2 c =
+    let ready : Able c.loop-at.out c.loop-at.stack c.loop-at.o = making-able c.args.s.now _ _ _ _ _ _ _ c.loop-at.invariant in
+    let a = ready in (a.room, let x = a.small in omega (arith, x))
 
 pub returns : goal.returns
 returns c =

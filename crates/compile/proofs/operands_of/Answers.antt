@@ -1,17 +1,17 @@
 -- `compile::operands_of` meets its contract. Assumes nothing.
 use mathlib.Core.Path.{◌≡◌, sym, ap, ◌∙◌}
-use mathlib.Core.Logic.{⊎_elim}
 use Prim.Native.Nat.{ℕ, ◌-◌}
 use Rattle.vocabulary.specs.Codes.{head_by_code}
 use Rattle.tabling.specs.Emit.{leads}
 use Rattle.compile.proofs.Leads.{other-lead, rep-lead, fold-lead}
 use Rattle.compile.proofs.operands_of.Goals as goal
-
-lead : (c : tie.After-below) → leads (head_by_code c.before.before.args.k) ≡ c.before.match.lead
-lead c =
-    ⊎_elim (λ x. ap (λ (k : ℕ). leads (head_by_code k)) x.0.keys1 ∙ rep-lead ∙ sym x.1)
-    (⊎_elim (λ x. ap (λ (k : ℕ). leads (head_by_code k)) x.0.keys2 ∙ fold-lead ∙ sym x.1)
-    (λ x. other-lead c.before.before.args.k x.0.rest.0.1 x.0.rest.1 ∙ sym x.1)) c.before.match.branch
+use Rattle.compile.proofs.operands_of.Goals.{in-11, in-17, in_default}
 
 pub returns : goal.returns
-returns c = c.below.ensures ∙ sym (ap (λ (n : ℕ). c.args.items - n) (lead c))
+returns c =
+    let lead : leads (head_by_code c.args.k) ≡ c.match-k.lead = elim c.match-k.branch [
+      | in-11 w ↦ ap (λ (k : ℕ). leads (head_by_code k)) w.in-11.is ∙ rep-lead ∙ sym w.lead-is
+      | in-17 w ↦ ap (λ (k : ℕ). leads (head_by_code k)) w.in-17.is ∙ fold-lead ∙ sym w.lead-is
+      | in_default w ↦ other-lead c.args.k w.in_default.in_default-own.rest.0.1 w.in_default.in_default-own.rest.1 ∙ sym w.lead-is
+    ] in
+    c.below.ensures ∙ sym (ap (λ (n : ℕ). c.args.items - n) lead)

@@ -14,38 +14,41 @@ use Rattle.decide.proofs.Picks.{said-no, said-yes}
 use Rattle.effects.proofs.Refusals.{turned, carried-out, is-14, is-15, is-0}
 use Rattle.effects.proofs.link.Goals as goal
 
--- `effects::link` meets its contract. Assumes nothing.
-two : (c : tie.Else1) → (is_device c.before.before.args.a && is_device c.before.before.args.b) ≡ true
-two c = said-yes c.before.are-devices.ensures c.if1.false
-
-pair : (c : tie.Else1) → Pair c.before.before.args.a c.before.before.args.b
-pair c = pair_of _ _ (two c)
-
-distance-said : (c : tie.After-distance-sound) → c.distance-sound.result ≡ is_distance c.before.before.before.args.distance
-distance-said c = rw (to_z-of_z w32 c.before.before.before.args.distance c.before.before.before.ranges.distance) at c.distance-sound.ensures
-
-in-range : (c : tie.Else2) → out_of_range (link c.before.before.before.before.args.a c.before.before.before.before.args.b c.before.before.before.before.args.distance) ≡ false
-in-range c = rw (two c.before.before, said-yes (distance-said c.before) c.if2.false)
-
 pub returns-then-not-are_devices : goal.returns-then-not-are_devices
 returns-then-not-are_devices c = turned _ _ _ 14 (is-14 _ _ (rw (said-no c.are_devices.ensures c.if-not-are_devices.true-raw))) (λ z. omega arith) c.answered.ensures
 
 pub returns-then-not-distance_sound : goal.returns-then-not-distance_sound
 returns-then-not-distance_sound c =
-    turned _ _ _ 14 (is-14 _ _ (rw (two c, said-no (distance-said c) c.if-not-distance_sound.true-raw))) (λ z. omega arith) c.answered-then-not-distance_sound.ensures
+    let two : (is_device c.args.a && is_device c.args.b) ≡ true = said-yes c.are_devices.ensures c.if-not-are_devices.false-raw in
+    let distance-said : c.distance_sound.result ≡ is_distance c.args.distance = rw (to_z-of_z w32 c.args.distance c.ranges.distance) at c.distance_sound.ensures in
+    turned _ _ _ 14 (is-14 _ _ (rw (two, said-no distance-said c.if-not-distance_sound.true-raw))) (λ z. omega arith) c.answered-then-not-distance_sound.ensures
 
 pub returns-then-a-b : goal.returns-then-a-b
-returns-then-a-b c = turned _ _ _ 15 (is-15 _ _ (in-range c) (eq-eqb _ _ c.if-a-b.true)) (λ z. omega arith) c.answered-then-a-b.ensures
+returns-then-a-b c =
+    let two : (is_device c.args.a && is_device c.args.b) ≡ true = said-yes c.are_devices.ensures c.if-not-are_devices.false-raw in
+    let distance-said : c.distance_sound.result ≡ is_distance c.args.distance = rw (to_z-of_z w32 c.args.distance c.ranges.distance) at c.distance_sound.ensures in
+    let in-range : out_of_range (link c.args.a c.args.b c.args.distance) ≡ false = rw (two, said-yes distance-said c.if-not-distance_sound.false-raw) in
+    turned _ _ _ 15 (is-15 _ _ in-range (eq-eqb _ _ c.if-a-b.true)) (λ z. omega arith) c.answered-then-a-b.ensures
 
 pub heard_from-at-requires : goal.heard_from-at-requires
-heard_from-at-requires c = let p = pair c in omega arith
+heard_from-at-requires c =
+    let two : (is_device c.args.a && is_device c.args.b) ≡ true = said-yes c.are_devices.ensures c.if-not-are_devices.false-raw in
+    let pair : Pair c.args.a c.args.b = pair_of _ _ two in
+    let p = pair in omega arith
 
 pub bounds-net-at : goal.bounds-net-at
-bounds-net-at c = let p = pair c in omega (arith, c.heard_from-at.ensures)
+bounds-net-at c =
+    let two : (is_device c.args.a && is_device c.args.b) ≡ true = said-yes c.are_devices.ensures c.if-not-are_devices.false-raw in
+    let pair : Pair c.args.a c.args.b = pair_of _ _ two in
+    let p = pair in omega (arith, c.heard_from-at.ensures)
 
 pub returns : goal.returns
 returns c =
-    carried-out _ _ _ _ (is-0 _ _ (in-range c) (ne_eqb _ _ c.if-a-b.false) refl)
-    (λ main. rw (c.heard_from-at.ensures, to_z-of_z w32 c.args.distance c.ranges.distance)
-    (store-one c.args.net.now (heard_from c.args.a c.args.b) c.args.distance))
+    let two : (is_device c.args.a && is_device c.args.b) ≡ true = said-yes c.are_devices.ensures c.if-not-are_devices.false-raw in
+    let distance-said : c.distance_sound.result ≡ is_distance c.args.distance = rw (to_z-of_z w32 c.args.distance c.ranges.distance) at c.distance_sound.ensures in
+    let in-range : out_of_range (link c.args.a c.args.b c.args.distance) ≡ false = rw (two, said-yes distance-said c.if-not-distance_sound.false-raw) in
+    let s = c.before.before.before.before.before.before.before in
+    carried-out _ _ _ _ (is-0 _ _ in-range (ne_eqb _ _ c.if-a-b.false) refl)
+    (λ main. rw (c.heard_from-at.ensures, to_z-of_z w32 s.args.distance s.ranges.distance)
+    (store-one s.args.net.now (heard_from s.args.a s.args.b) s.args.distance))
     (λ main. c.answered-2.ensures)

@@ -11,25 +11,25 @@ use Rattle.event.proofs.Devices.{Pair}
 use Rattle.effects.proofs.Refusals.{turned_by, carried-out, two-devices, same-refusal}
 use Rattle.effects.proofs.lose.Goals as goal
 
--- `effects::lose` meets its contract. Assumes nothing.
-passes : (c : tie.Else1) → refusal c.before.before.before.args.net.now (deliver c.before.before.before.args.a c.before.before.before.args.b) ≡ 0
-passes c = sym (ap (of_z w32) c.before.message-refusal.ensures) ∙ c.if1.false
-
-two : (c : tie.Else1) → Pair c.before.before.before.args.a c.before.before.before.args.b
-two c = two-devices _ _ _ (passes c)
-
 pub returns-then-code-ne0 : goal.returns-then-code-ne0
 returns-then-code-ne0 c =
     turned_by _ _ _ c.message_refusal-code.result (sfits_of c.message_refusal-code.type_inv)
     (c.message_refusal-code.ensures ∙ ap pos (sym (same-refusal _ _ _))) c.if-code-ne0.true c.answered.ensures
 
 pub pending_to-requires : goal.pending_to-requires
-pending_to-requires c = let p = two c in omega arith
+pending_to-requires c =
+    let passes : refusal c.args.net.now (deliver c.args.a c.args.b) ≡ 0 = sym (ap (of_z w32) c.message_refusal-code.ensures) ∙ c.if-code-ne0.false in
+    let two : Pair c.args.a c.args.b = two-devices _ _ _ passes in
+    let p = two in omega arith
 
 pub no_message-requires : goal.no_message-requires
-no_message-requires c = let p = two c in omega (arith, c.pending_to.ensures)
+no_message-requires c =
+    let passes : refusal c.args.net.now (deliver c.args.a c.args.b) ≡ 0 = sym (ap (of_z w32) c.message_refusal-code.ensures) ∙ c.if-code-ne0.false in
+    let two : Pair c.args.a c.args.b = two-devices _ _ _ passes in
+    let p = two in omega (arith, c.pending_to.ensures)
 
 pub returns : goal.returns
 returns c =
-    carried-out _ _ _ _ (same-refusal _ _ _ ∙ passes c)
+    let passes : refusal c.args.net.now (deliver c.args.a c.args.b) ≡ 0 = sym (ap (of_z w32) c.message_refusal-code.ensures) ∙ c.if-code-ne0.false in
+    carried-out _ _ _ _ (same-refusal _ _ _ ∙ passes)
     (λ main. c.no_message.ensures ∙ rw c.pending_to.ensures) (λ main. c.answered-2.ensures)

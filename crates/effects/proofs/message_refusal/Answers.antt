@@ -16,35 +16,36 @@ use Rattle.decide.proofs.Picks.{said-no, said-yes}
 use Rattle.effects.proofs.Refusals.{is-14, is-15, is-16, is-0}
 use Rattle.effects.proofs.message_refusal.Goals as goal
 
--- `effects::message_refusal` meets its contract: its tests are the rows of the refusal table. Assumes nothing.
-two : (c : tie.Else1) → (is_device c.before.before.args.a && is_device c.before.before.args.b) ≡ true
-two c = said-yes c.before.are-devices.ensures c.if1.false
-
-pair : (c : tie.Else1) → Pair c.before.before.args.a c.before.before.args.b
-pair c = pair_of _ _ (two c)
-
--- the cell that says whether a message is pending
-abbrev cell : tie.After-if32 → ℤ
-cell c = get_or c.before.before.before.before.before.args.net.now c.before.pending-to.result (pos 0)
-
 pub returns-then-not-are_devices : goal.returns-then-not-are_devices
 returns-then-not-are_devices c = ap pos (sym (is-14 _ _ (rw (said-no c.are_devices.ensures c.if-not-are_devices.true-raw))))
 
 pub returns-then-a-b : goal.returns-then-a-b
-returns-then-a-b c = ap pos (sym (is-15 _ _ (rw (two c)) (eq-eqb _ _ c.if-a-b.true)))
+returns-then-a-b c =
+    let two : (is_device c.args.a && is_device c.args.b) ≡ true = said-yes c.are_devices.ensures c.if-not-are_devices.false-raw in
+    ap pos (sym (is-15 _ _ (rw two) (eq-eqb _ _ c.if-a-b.true)))
 
 pub pending_to-at-requires : goal.pending_to-at-requires
-pending_to-at-requires c = let p = pair c in omega arith
+pending_to-at-requires c =
+    let two : (is_device c.args.a && is_device c.args.b) ≡ true = said-yes c.are_devices.ensures c.if-not-are_devices.false-raw in
+    let pair : Pair c.args.a c.args.b = pair_of _ _ two in
+    let p = pair in omega arith
 
 pub bounds-net-at : goal.bounds-net-at
-bounds-net-at c = let p = pair c in omega (arith, c.pending_to-at.ensures)
+bounds-net-at c =
+    let two : (is_device c.args.a && is_device c.args.b) ≡ true = said-yes c.are_devices.ensures c.if-not-are_devices.false-raw in
+    let pair : Pair c.args.a c.args.b = pair_of _ _ two in
+    let p = pair in omega (arith, c.pending_to-at.ensures)
 
 pub returns-then-net-at-eq0 : goal.returns-then-net-at-eq0
 returns-then-net-at-eq0 c =
-    let z : cell c ≡ pos 0 = sym (to_z-of_z (sfits_of c.t9-1.given)) ∙ ap (to_z w32) c.if-net-at-eq0.true in
-    ap pos (sym (is-16 _ _ (rw (two c)) (ne_eqb _ _ c.if-a-b.false) (rw (← c.pending_to-at.ensures) (eq_z-yes _ _ z))))
+    let two : (is_device c.args.a && is_device c.args.b) ≡ true = said-yes c.are_devices.ensures c.if-not-are_devices.false-raw in
+    let cell : ℤ = get_or c.args.net.now c.pending_to-at.result (pos 0) in
+    let z : cell ≡ pos 0 = sym (to_z-of_z {w = w32} (sfits_of c.t9-1.given)) ∙ ap (to_z w32) c.if-net-at-eq0.true in
+    ap pos (sym (is-16 _ _ (rw two) (ne_eqb _ _ c.if-a-b.false) (rw (← c.pending_to-at.ensures) (eq_z-yes _ _ z))))
 
 pub returns : goal.returns
 returns c =
-    let z = eq_z-no (cell c) (pos 0) (λ e. c.if-net-at-eq0.false (ap (of_z w32) e)) in
-    ap pos (sym (is-0 _ _ (rw (two c)) (ne_eqb _ _ c.if-a-b.false) (rw (← c.pending_to-at.ensures) z)))
+    let two : (is_device c.args.a && is_device c.args.b) ≡ true = said-yes c.are_devices.ensures c.if-not-are_devices.false-raw in
+    let cell : ℤ = get_or c.args.net.now c.pending_to-at.result (pos 0) in
+    let z = eq_z-no cell (pos 0) (λ e. c.if-net-at-eq0.false (ap (of_z w32) e)) in
+    ap pos (sym (is-0 _ _ (rw two) (ne_eqb _ _ c.if-a-b.false) (rw (← c.pending_to-at.ensures) z)))

@@ -18,74 +18,72 @@ use Rattle.effects.proofs.Refusals.{turned, carried-out, is-14, is-0}
 use Rattle.effects.proofs.Digit.{Plain, plain}
 use Rattle.effects.proofs.signal.Goals as goal
 
--- `effects::signal` meets its contract. Assumes nothing.
-a-is : (c : tie.Else1) → is_device c.before.before.args.a ≡ true
-a-is c = said-yes c.before.is-device.ensures c.if1.false
-
-in-range : (c : tie.Else3) → out_of_range (signal c.before.before.before.before.args.a c.before.before.before.before.args.sensor
-    c.before.before.before.before.args.switch) ≡ false
-in-range c = rw (
-  a-is c.before.before,
-  le-leb c.before.before.before.before.args.sensor 15 c.before.if2.false,
-  le-leb c.before.before.before.before.args.switch 1
-      c.if3.false,
-)
-
--- the cell, as it is read
-abbrev cell : tie.After-digit-set-arg → ℤ
-cell c = get_or c.before.before.before.before.before.before.args.net.now c.before.sensors-of.result (pos 0)
-
-fits : (c : tie.After-digit-set-arg) → SFits w32 (cell c)
-fits c = sfits_of c.digit-set-arg.given
-
-lit : (c : tie.After-digit-set-arg) → Plain (cell c)
-lit c = plain (cell c) (rw c.before.sensors-of.ensures c.before.before.before.before.before.before.requires.1) c.digit-set-arg.given
-
 pub returns-then-not-is_device : goal.returns-then-not-is_device
 returns-then-not-is_device c = turned _ _ _ 14 (is-14 _ _ (rw (said-no c.is_device.ensures c.if-not-is_device.true-raw))) (λ z. omega arith) c.answered.ensures
 
 pub returns-then-sensor-gt15 : goal.returns-then-sensor-gt15
 returns-then-sensor-gt15 c =
-    turned _ _ _ 14 (is-14 _ _ (rw (a-is c, lt-leb c.args.sensor 15 c.if-sensor-gt15.true))) (λ z. omega arith) c.answered-then-sensor-gt15.ensures
+    let a-is : is_device c.args.a ≡ true = said-yes c.is_device.ensures c.if-not-is_device.false-raw in
+    turned _ _ _ 14 (is-14 _ _ (rw (a-is, lt-leb c.args.sensor 15 c.if-sensor-gt15.true))) (λ z. omega arith) c.answered-then-sensor-gt15.ensures
 
 pub returns-then-switch-gt1 : goal.returns-then-switch-gt1
 returns-then-switch-gt1 c =
+    let a-is : is_device c.args.a ≡ true = said-yes c.is_device.ensures c.if-not-is_device.false-raw in
     turned _ _ _ 14 (is-14 _ _ (rw (
-      a-is c,
+      a-is,
       le-leb c.args.sensor 15 c.if-sensor-gt15.false,
       lt-leb
           c.args.switch 1 c.if-switch-gt1.true,
     ))) (λ z. omega arith) c.answered-then-switch-gt1.ensures
 
 pub sensors_of-at-requires : goal.sensors_of-at-requires
-sensors_of-at-requires c = (device _ (a-is c)).0
+sensors_of-at-requires c =
+    let a-is : is_device c.args.a ≡ true = said-yes c.is_device.ensures c.if-not-is_device.false-raw in
+    (device _ a-is).0
 
 pub slice_copy_out-digit_set : goal.slice_copy_out-digit_set
-slice_copy_out-digit_set c = omega (arith, c.sensors_of-at.ensures, device c.args.a (a-is c))
+slice_copy_out-digit_set c =
+    let a-is : is_device c.args.a ≡ true = said-yes c.is_device.ensures c.if-not-is_device.false-raw in
+    omega (arith, c.sensors_of-at.ensures, device c.args.a a-is)
 
 pub overflow_cast-net : goal.overflow_cast-net
-overflow_cast-net c = rw (to_z-of_z w32 (cell c) (fits c)) ((lit c).sign, omega (arith, (lit c).small))
+overflow_cast-net c =
+    let cell : ℤ = get_or c.args.net.now c.sensors_of-at.result (pos 0) in
+    let fits : SFits w32 cell = sfits_of c.digit_set-arg-1.given in
+    let lit : Plain cell = plain cell (rw c.sensors_of-at.ensures c.requires.1) c.digit_set-arg-1.given in
+    rw (to_z-of_z w32 cell fits) (lit.sign, omega (arith, lit.small))
 
 pub digit_set-requires : goal.digit_set-requires
-digit_set-requires c = rw (to_z-of_z w32 (cell c) (fits c)) ((lit c).small, c.if-sensor-gt15.false, c.if-switch-gt1.false)
+digit_set-requires c =
+    let cell : ℤ = get_or c.args.net.now c.sensors_of-at.result (pos 0) in
+    let fits : SFits w32 cell = sfits_of c.digit_set-arg-1.given in
+    let lit : Plain cell = plain cell (rw c.sensors_of-at.ensures c.requires.1) c.digit_set-arg-1.given in
+    rw (to_z-of_z w32 cell fits) (lit.small, c.if-sensor-gt15.false, c.if-switch-gt1.false)
 
 pub bounds-net-at : goal.bounds-net-at
-bounds-net-at c = omega (
-  arith,
-  c.sensors_of-at.ensures,
-  device c.args.a
-      (a-is c),
-)
+bounds-net-at c =
+    let a-is : is_device c.args.a ≡ true = said-yes c.is_device.ensures c.if-not-is_device.false-raw in
+    omega (
+      arith,
+      c.sensors_of-at.ensures,
+      device c.args.a
+          a-is,
+    )
 
 pub returns : goal.returns
 returns c =
-    carried-out _ _ _ _ (is-0 _ _ (in-range c) refl refl)
+    let a-is : is_device c.args.a ≡ true = said-yes c.is_device.ensures c.if-not-is_device.false-raw in
+    let in-range : out_of_range (signal c.args.a c.args.sensor c.args.switch) ≡ false = rw (a-is, le-leb c.args.sensor 15 c.if-sensor-gt15.false, le-leb c.args.switch 1 c.if-switch-gt1.false) in
+    let cell : ℤ = get_or c.args.net.now c.sensors_of-at.result (pos 0) in
+    let fits : SFits w32 cell = sfits_of c.digit_set-arg-1.given in
+    let s = c.before.before.before.before.before.before.before.before in
+    carried-out _ _ _ _ (is-0 _ _ in-range refl refl)
     (λ main. rw (
       to_z-of_z w32 (pos c.digit_set.result) (record { sfits = c.digit_set.ensures.1 }),
       c.digit_set.ensures.0,
       to_z-of_z w32
-          (cell c) (fits c),
+          cell fits,
       c.sensors_of-at.ensures,
     )
-    (store-one c.args.net.now (sensors_of c.args.a) (pos (digit_set c.args.sensor c.args.switch (nat_abs (get_or c.args.net.now (sensors_of c.args.a) (pos 0)))))))
+    (store-one s.args.net.now (sensors_of s.args.a) (pos (digit_set s.args.sensor s.args.switch (nat_abs (get_or s.args.net.now (sensors_of s.args.a) (pos 0)))))))
     (λ main. c.answered-2.ensures)

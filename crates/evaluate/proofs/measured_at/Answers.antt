@@ -25,12 +25,13 @@ ages e f g = rw (e, f, g) record { there = omega arith; are = λ here i. sym (la
 distances : {lag : Bool} {from by : ℕ} → lag ≡ false → from ≡ heard_at 1 → by ≡ 16 → Cells lag from by
 distances e f g = rw (e, f, g) record { there = omega arith; are = λ here i. sym (range_cells here i) }
 
-cells : (c : tie.Joined1) → Cells c.before.args.lag c.if1.from c.if1.by
-cells c = ⊎_elim (λ p. ages p.0.taken p.1 p.2) (λ p. distances p.0.left p.1 p.2) c.if1.branch
-
 pub measured-requires : goal.measured-requires
-measured-requires c = (c.requires.0, (cells c).there)
+measured-requires c =
+    let cells : Cells c.args.lag c.if-lag.from c.if-lag.by = ⊎_elim (λ p. ages p.0.taken p.1 p.2) (λ p. distances p.0.left p.1 p.2) c.if-lag.branch in
+    (c.requires.0, cells.there)
 
 pub returns : goal.returns
 returns c =
-    sends c.args.st.now c.args.slot c.requires.0 refl c.requires.1 (sym (c.measured.ensures ∙ (cells c).are c.args.here.now c.args.slot))
+    let cells : Cells c.args.lag c.if-lag.from c.if-lag.by = ⊎_elim (λ p. ages p.0.taken p.1 p.2) (λ p. distances p.0.left p.1 p.2) c.if-lag.branch in
+    let s = c.before.before in
+    sends s.args.st.now s.args.slot s.requires.0 refl s.requires.1 (sym (c.measured.ensures ∙ cells.are s.args.here.now s.args.slot))

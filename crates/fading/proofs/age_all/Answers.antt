@@ -27,7 +27,7 @@ loop-b-preserved c =
       omega arith,
       length-set l.net _ _ ∙ l.invariant.1,
       age-more c.args.net.now l.net c.args.at l.b _ c.requires c.loop-b-test.true
-          (to_z-of_z (sfits_of c.older.type_inv) ∙ (simp x at c.older.ensures)) l.invariant.2,
+          (to_z-of_z {w = w32} (sfits_of c.older.type_inv) ∙ (simp x at c.older.ensures)) l.invariant.2,
     )
 
 pub shape_of-net : goal.shape_of-net

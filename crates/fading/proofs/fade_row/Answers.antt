@@ -8,14 +8,16 @@ use Rattle.round.specs.Round.{fades}
 use Rattle.fading.proofs.Rows.{stays, cleared}
 use Rattle.fading.proofs.fade_row.Goals as goal
 
-fades-says : (c : tie.After-fades) → eqb c.fades.result 0 ≡ not (fades c.before.args.age)
-fades-says c = rw (to_z-of_z c.before.ranges.age) at c.fades.ensures
-
 pub returns-then-fades-eq0 : goal.returns-then-fades-eq0
 returns-then-fades-eq0 c =
-    stays c.args.net.now c.args.at c.args.age c.requires (not-true _ (sym (fades-says c) ∙ eq-eqb _ 0 c.if-fades-eq0.true))
+    let fades-says : eqb c.fades.result 0 ≡ not (fades c.args.age) = rw (to_z-of_z c.ranges.age) at c.fades.ensures in
+    let s = c.before.before in
+    stays s.args.net.now s.args.at s.args.age s.requires (not-true _ (sym fades-says ∙ eq-eqb _ 0 c.if-fades-eq0.true))
 
 pub returns : goal.returns
 returns c =
+    let fades-says : eqb c.fades.result 0 ≡ not (fades c.args.age) = rw (to_z-of_z c.ranges.age) at c.fades.ensures in
+    let t = c.before.before.before in
+    let s = t.before.before in
     c.clear.ensures
-    ∙ cleared c.args.net.now c.args.at c.args.age c.requires (not-false _ (sym (fades-says c) ∙ ne_eqb _ 0 c.if-fades-eq0.false))
+    ∙ cleared s.args.net.now s.args.at s.args.age s.requires (not-false _ (sym fades-says ∙ ne_eqb _ 0 t.if-fades-eq0.false))

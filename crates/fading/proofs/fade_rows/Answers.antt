@@ -31,7 +31,7 @@ loop-b-preserved c =
     let p = c.args.at + 16 * l.b in
     let z = get_or c.args.ages.now l.b (pos 0) in
     let i : 1 + l.b - 1 ≡ l.b = omega arith in
-    let e : c.fade_row.new.0 ≡ store l.net p (f (1 + l.b)) =
+    let e : c.fade_row.new.net ≡ store l.net p (f (1 + l.b)) =
     (simp x at c.fade_row.ensures)
     ∙ ap (store l.net p) (rw i (ap (λ (m : List ℤ). row_after m p z) l.invariant.2.is ∙ row-behind n c.args.at c.args.ages.now _ (16 * l.b) z k)) in (
       omega arith,

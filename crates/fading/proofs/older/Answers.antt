@@ -13,24 +13,25 @@ use Rattle.round.specs.Round.{fades}
 use Rattle.fading.proofs.Ages.{fades-by, more-fits, absent, gone, grown}
 use Rattle.fading.proofs.older.Goals as goal
 
-fades-says : (c : tie.After-fades) → eqb c.fades.result 0 ≡ not (fades c.before.before.args.x)
-fades-says c = rw (to_z-of_z c.before.before.ranges.x) at c.fades.ensures
-
-stays : (c : tie.Else2) → fades c.before.before.before.args.x ≡ false
-stays c = not-true _ (sym (fades-says c.before) ∙ eq-eqb _ 0 c.if2.false)
-
-fits : (c : tie.Else2) → SFits w32 (c.before.before.before.args.x +ℤ pos 1)
-fits c = more-fits _ c.before.before.before.ranges.x (not-false _ (sym (fades-by c.before.before.before.args.x) ∙ stays c))
-
 pub returns-then-x-eq-MARK : goal.returns-then-x-eq-MARK
 returns-then-x-eq-MARK c = absent c.args.x (same_bits w32 _ _ c.ranges.x (sfits_lit tt) c.if-x-eq-MARK.true)
 
 pub returns-then-fades-ne0 : goal.returns-then-fades-ne0
-returns-then-fades-ne0 c = gone c.args.x (not-false _ (sym (fades-says c) ∙ ne_eqb _ 0 c.if-fades-ne0.true))
+returns-then-fades-ne0 c =
+    let fades-says : eqb c.fades.result 0 ≡ not (fades c.args.x) = rw (to_z-of_z c.ranges.x) at c.fades.ensures in
+    gone c.args.x (not-false _ (sym fades-says ∙ ne_eqb _ 0 c.if-fades-ne0.true))
 
 pub overflow_add-result : goal.overflow_add-result
-overflow_add-result c = rw (to_z-of_z c.ranges.x) (fits c)
+overflow_add-result c =
+    let fades-says : eqb c.fades.result 0 ≡ not (fades c.args.x) = rw (to_z-of_z c.ranges.x) at c.fades.ensures in
+    let stays : fades c.args.x ≡ false = not-true _ (sym fades-says ∙ eq-eqb _ 0 c.if-fades-ne0.false) in
+    let fits : SFits w32 (c.args.x +ℤ pos 1) = more-fits _ c.ranges.x (not-false _ (sym (fades-by c.args.x) ∙ stays)) in
+    rw (to_z-of_z c.ranges.x) fits
 
 pub returns : goal.returns
 returns c =
-    rw (to_z-of_z c.ranges.x) (to_z-of_z (fits c) ∙ grown c.args.x (eq_z-no c.args.x mark (λ e. c.if-x-eq-MARK.false (ap (of_z w32) e))) (stays c))
+    let fades-says : eqb c.fades.result 0 ≡ not (fades c.args.x) = rw (to_z-of_z c.ranges.x) at c.fades.ensures in
+    let stays : fades c.args.x ≡ false = not-true _ (sym fades-says ∙ eq-eqb _ 0 c.if-fades-ne0.false) in
+    let fits : SFits w32 (c.args.x +ℤ pos 1) = more-fits _ c.ranges.x (not-false _ (sym (fades-by c.args.x) ∙ stays)) in
+    let s = c.before.before.before in
+    rw (to_z-of_z s.ranges.x) (to_z-of_z fits ∙ grown s.args.x (eq_z-no s.args.x mark (λ e. c.if-x-eq-MARK.false (ap (of_z w32) e))) stays)

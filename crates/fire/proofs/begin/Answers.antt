@@ -7,6 +7,7 @@ use native.Mathlib.Numerals.{add-one}
 use borrow.Author.Rules.{sfits_of}
 use lib.ListN.{length, get_or, take, drop, set, replicate, length-set, length-drop, replicate-append-replicate}
 use lib.Seq.{take-suc-set, take-set-le, drop-set-lt, drop-set-add, get_or-set_same}
+use mir.Syntax.{w32}
 use mir.Facts.{to_z-of_z}
 use lib.IntN.{ℤ, pos}
 use Rattle.number.specs.Number.{mark}
@@ -55,7 +56,7 @@ slice_set_of-st-in-loop-i c = simp length-set (omega (arith, c.loop-i.invariant.
 pub loop-i-preserved : goal.loop-i-preserved
 loop-i-preserved c =
     let l = c.loop-i in
-    one_more c.args.here.now l.st l.i _ c.loop-i-test.true (omega (arith, c.requires.0, c.loop-i-test.true)) (to_z-of_z (sfits_of c.st-1.given)) l.invariant
+    one_more c.args.here.now l.st l.i _ c.loop-i-test.true (omega (arith, c.requires.0, c.loop-i-test.true)) (to_z-of_z {w = w32} (sfits_of c.st-1.given)) l.invariant
 
 pub shape_of-st : goal.shape_of-st
 shape_of-st c = c.loop-i.invariant.whole ∙ sym c.requires.1

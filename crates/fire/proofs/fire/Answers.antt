@@ -20,65 +20,57 @@ use Rattle.fire.proofs.Rounds.{idle-rows, refused, fires, fails, stopped, node-f
 use borrow.Author.Rules.{rules, sfits_of}
 use Rattle.fire.proofs.fire.Goals as goal
 
--- `fire::fire` meets its contract. Assumes nothing.
-in-range : (c : tie.Else1) → out_of_range (fire c.before.before.args.a) ≡ false
-in-range c = sym c.before.fire-refused.ensures ∙ c.if1.false
-
-near : (c : tie.Else1) → (1 ≤ c.before.before.args.a) × (c.before.before.args.a ≤ 16)
-near c = device _ (not-false _ (in-range c))
-
--- its cells are all there
-whole-block : (c : tie.Else1) → base c.before.before.args.a + block_size ≤ length c.before.before.args.net.now
-whole-block c = let p = near c in omega (arith, c.before.before.requires.whole)
-
--- where the device is one of the sixteen
-abbrev gone-on : (c : tie.After-f) → tie.Else1
-gone-on c = c.before.before.before.before.before.before.before.before.before
-
--- the state that the round began with
-abbrev began : (c : tie.After-f) → tie.After-begin
-began c = c.before.before.before.before
-
-abbrev own : (c : tie.After-f) → tie.After-own-cells
-own c = (began c).before.before.before
-
 pub returns-then-fire_refused : goal.returns-then-fire_refused
 returns-then-fire_refused c = refused _ _ _ _ (sym c.fire_refused.ensures ∙ c.if-fire_refused.true) refl
 
 pub overflow_sub-at : goal.overflow_sub-at
-overflow_sub-at c = let p = near c in omega arith
+overflow_sub-at c =
+    let in-range : out_of_range (fire c.args.a) ≡ false = sym c.fire_refused.ensures ∙ c.if-fire_refused.false in
+    let near : (1 ≤ c.args.a) × (c.args.a ≤ 16) = device _ (not-false _ in-range) in
+    let p = near in omega arith
 
 pub own_cells-here-requires : goal.own_cells-here-requires
-own_cells-here-requires c = let p = near c in omega arith
+own_cells-here-requires c =
+    let in-range : out_of_range (fire c.args.a) ≡ false = sym c.fire_refused.ensures ∙ c.if-fire_refused.false in
+    let near : (1 ≤ c.args.a) × (c.args.a ≤ 16) = device _ (not-false _ in-range) in
+    let p = near in omega arith
 
 pub overflow_sub-result : goal.overflow_sub-result
 overflow_sub-result c =
     let v = c.evaluate-v in
-    let w = stopped _ _ v.new.1.1.1.0 [] v.ensures (λ q. c.if-f-ne0.true (ap (of_z w32) q)) in
-    node-fits (fault_of v.new.1.1.1.0) w.node (sfits_of c.f-1.given) w.says
+    let w = stopped _ _ v.new.st [] v.ensures (λ q. c.if-f-ne0.true (ap (of_z w32) q)) in
+    node-fits (fault_of v.new.st) w.node (sfits_of c.f-1.given) w.says
 
 pub returns-then-f-ne0 : goal.returns-then-f-ne0
 returns-then-f-ne0 c =
-    let r = c in
+    let in-range : out_of_range (fire c.args.a) ≡ false = sym c.fire_refused.ensures ∙ c.if-fire_refused.false in
+    let near : (1 ≤ c.args.a) × (c.args.a ≤ 16) = device _ (not-false _ in-range) in
+    let whole-block : base c.args.a + block_size ≤ length c.args.net.now = (let p = near in omega (arith, c.requires.whole)) in
     let v = c.evaluate-v in
-    let e = (own r).own-cells.ensures in
-    fails _ _ _ (whole-block (gone-on r)) _ e v.result _ v.new.1.1.1.0 _ (in-range (gone-on r)) (began r).begin.ensures.state v.ensures (λ q. c.if-f-ne0.true (ap (of_z w32) q))
-    (λ k e. ap (λ (y : ℤ). (pos 17, y)) (node-read (fault_of v.new.1.1.1.0) k (sfits_of c.f-1.given) e))
+    let e = c.own_cells-here.ensures in
+    fails _ _ _ whole-block _ e v.result _ v.new.st _ in-range c.begin.ensures.state v.ensures (λ q. c.if-f-ne0.true (ap (of_z w32) q))
+    (λ k e. ap (λ (y : ℤ). (pos 17, y)) (node-read (fault_of v.new.st) k (sfits_of c.f-1.given) e))
 
 pub put_round-requires : goal.put_round-requires
 put_round-requires c =
-    let g = gone-on c in
+    let in-range : out_of_range (fire c.args.a) ≡ false = sym c.fire_refused.ensures ∙ c.if-fire_refused.false in
+    let near : (1 ≤ c.args.a) × (c.args.a ≤ 16) = device _ (not-false _ in-range) in
+    let g = c in
     let s = g.before.before in
-    let p = near g in
-    (omega arith, search rules, idle-rows s.args.net.now s.args.a s.pre.idle p.0 p.1)
+    let p = near in
+    (omega arith, search rules, idle-rows s.args.net.now s.args.a c.requires.idle p.0 p.1)
 
 pub returns : goal.returns
 returns c =
-    let r = c in
-    let s = (gone-on r).before.before in
-    let v = c.evaluate-v in
-    let e = (own r).own-cells.ensures in
-    let st = v.new.1.1.1.0 in
+    let in-range : out_of_range (fire c.args.a) ≡ false = sym c.fire_refused.ensures ∙ c.if-fire_refused.false in
+    let near : (1 ≤ c.args.a) × (c.args.a ≤ 16) = device _ (not-false _ in-range) in
+    let whole-block : base c.args.a + block_size ≤ length c.args.net.now = (let p = near in omega (arith, c.requires.whole)) in
+    let w = c.before in
+    let g = w.before.before.before.before in
+    let r = g.before in
+    let v = r.evaluate-v in
+    let e = c.own_cells-here.ensures in
+    let st = v.new.st in
     let k : length st ≡ state_size = search rules in
-    fires _ _ _ (whole-block (gone-on r)) _ e v.result _ st _ (in-range (gone-on r)) (began r).begin.ensures.state v.ensures _
-    (clear st (sfits_of c.f-1.given) c.if-f-ne0.false) k c.put_round.ensures (ap (λ (y : ℤ). (pos 0, y)) (to_z-of_z (sfits_of v.type_inv)))
+    fires _ _ _ whole-block _ e v.result _ st _ in-range c.begin.ensures.state v.ensures _
+    (clear st (sfits_of r.f-1.given) g.if-f-ne0.false) k c.put_round.ensures (ap (λ (y : ℤ). (pos 0, y)) (to_z-of_z {w = w32} (sfits_of v.type_inv)))

@@ -20,26 +20,22 @@ use Rattle.fire.proofs.Rounds.{unlinked, linked}
 use borrow.Author.Rules.{sfits_of}
 use Rattle.fire.proofs.put_message.Goals as goal
 
--- without a link
-no-link : (c : tie.Then1) → message c.before.before.args.here.now (state_of c.before.before.args.st.now) (1 + c.before.before.args.b) ≡ no_message
-no-link c =
-    let s = c.before.before in
-    let d = get_or s.args.here.now (heard_at 1 + 16 * s.args.b) (pos 0) in
-    unlinked s.args.here.now (state_of s.args.st.now) s.args.b (same_bits w32 d mark (sfits_of c.before.if12.given) (sfits_lit tt) c.if1.true)
-
 pub returns-then-net-at-ne0 : goal.returns-then-net-at-ne0
 returns-then-net-at-ne0 c =
-    let t = c in
-    c.no_message.ensures ∙ ap (store c.args.net.now c.args.at) (sym (no-link t))
+    let no-link : message c.args.here.now (state_of c.args.st.now) (1 + c.args.b) ≡ no_message = (let s = c.before.before in let d = get_or s.args.here.now (heard_at 1 + 16 * s.args.b) (pos 0) in unlinked s.args.here.now (state_of s.args.st.now) s.args.b (same_bits w32 d mark (sfits_of c.t11-1.given) (sfits_lit tt) c.if-here-b.true)) in
+    let s = c.before.before in
+    c.no_message.ensures ∙ ap (store s.args.net.now s.args.at) (sym no-link)
 
 -- what is there already
+
 pub returns-else-net-at-ne0 : goal.returns-else-net-at-ne0
 returns-else-net-at-ne0 c =
-    let t = c in
-    let n = c.args.net.now in
-    let e : get_or n c.args.at (pos 0) ≡ pos 0 = same_bits w32 (get_or n c.args.at (pos 0)) (pos 0) (sfits_of c.t15-1.given) (sfits_lit tt) c.if-net-at-ne0.false in
-    let i = c.requires.3 (row_first n c.args.at 16 (pos 0) (omega arith) ∙ e) in
-    sym (store-row n c.args.at 16) ∙ ap (store n c.args.at) (i ∙ sym (no-link t))
+    let no-link : message c.args.here.now (state_of c.args.st.now) (1 + c.args.b) ≡ no_message = (let s = c.before.before in let d = get_or s.args.here.now (heard_at 1 + 16 * s.args.b) (pos 0) in unlinked s.args.here.now (state_of s.args.st.now) s.args.b (same_bits w32 d mark (sfits_of c.t11-1.given) (sfits_lit tt) c.if-here-b.true)) in
+    let s = c.before.before in
+    let n = s.args.net.now in
+    let e : get_or n s.args.at (pos 0) ≡ pos 0 = same_bits w32 (get_or n s.args.at (pos 0)) (pos 0) (sfits_of c.t15-1.given) (sfits_lit tt) c.if-net-at-ne0.false in
+    let i = s.requires.3 (row_first n s.args.at 16 (pos 0) (omega arith) ∙ e) in
+    sym (store-row n s.args.at 16) ∙ ap (store n s.args.at) (i ∙ sym no-link)
 
 pub returns : goal.returns
 unfolding state_of

@@ -15,33 +15,28 @@ use Rattle.effects.proofs.Idle.{message-length}
 use Rattle.fire.proofs.Rounds.{sent-length, idle-behind}
 use Rattle.fire.proofs.put_messages.Goals as goal
 
--- the message to each device, and its length
-abbrev messages : tie.Start invariant-loop decreases-loop → ℕ → List ℤ
-messages s = message s.args.here.now (state_of s.args.st.now)
-
-row_of : (s : tie.Start invariant-loop decreases-loop) (b : ℕ) → length (messages s b) ≡ 16
-row_of s b = message-length s.args.here.now (state_of s.args.st.now) b (sent-length s.args.st.now s.requires.1)
-
 pub loop-b-init : goal.loop-b-init
 unfolding joined from
 loop-b-init c = (omega arith, refl, none_yet _ _)
 
 pub put_message-requires : goal.put_message-requires
 put_message-requires c =
-    let s = c in
+    let messages : ℕ → List ℤ = message c.args.here.now (state_of c.args.st.now) in
+    let row_of : (b : ℕ) → length (messages b) ≡ 16 = (λ b. message-length c.args.here.now (state_of c.args.st.now) b (sent-length c.args.st.now c.requires.1)) in
     let l = c.loop-b in
-    let k = joined_length (messages s) 16 1 l.b (λ j _. row_of s (1 + j)) in
+    let k = joined_length messages 16 1 l.b (λ j _. row_of (1 + j)) in
     (search rules, search rules, search rules, idle-behind _ _ _ c.args.at (c.args.at + 16 * l.b) l.invariant.2.is (omega (arith, k)) (c.requires.2 l.b (omega arith)))
 
 pub loop-b-preserved : goal.loop-b-preserved
 loop-b-preserved c =
-    let s = c in
+    let messages : ℕ → List ℤ = message c.args.here.now (state_of c.args.st.now) in
+    let row_of : (b : ℕ) → length (messages b) ≡ 16 = (λ b. message-length c.args.here.now (state_of c.args.st.now) b (sent-length c.args.st.now c.requires.1)) in
     let l = c.loop-b in
-    let f = messages s in
+    let f = messages in
     let e = c.put_message.ensures in (
       omega arith,
       rw e (simp length-store l.invariant.1),
-      rw (joined-more f 1 l.b, e) (row_more (16 * l.b) (f (1 + l.b)) (joined_length f 16 1 l.b (λ j _. row_of s (1 + j))) l.invariant.2),
+      rw (joined-more f 1 l.b, e) (row_more (16 * l.b) (f (1 + l.b)) (joined_length f 16 1 l.b (λ j _. row_of (1 + j))) l.invariant.2),
     )
 
 pub shape_of-net : goal.shape_of-net

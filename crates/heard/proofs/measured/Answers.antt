@@ -15,10 +15,6 @@ use Rattle.domain.proofs.Laws.{built-none, bit_le, built-more}
 use Rattle.heard.proofs.Fields.{cell_at, measure_at, measured-field, measure-there}
 use Rattle.heard.proofs.measured.Goals as goal
 
--- the measure's cell is one of those that the round reads
-there : (c : tie.After-v invariant-loop decreases-loop) → c.before.before.before.args.from + c.before.before.before.args.by * c.before.before.loop.b < own_size
-there c = measure-there _ _ _ _ c.before.loop-test.true c.before.before.before.requires.1
-
 pub loop-b-init : goal.loop-b-init
 loop-b-init c = (
   search rules,
@@ -31,16 +27,24 @@ pub bounds-here-b : goal.bounds-here-b
 bounds-here-b c = omega (arith, c.loop-b-test.true, c.requires.0)
 
 pub overflow_mul-d : goal.overflow_mul-d
-overflow_mul-d c = record { fits = omega (arith, there c) }
+overflow_mul-d c =
+    let there : c.args.from + c.args.by * c.loop-b.b < own_size = measure-there _ _ _ _ c.loop-b-test.true c.requires.1 in
+    record { fits = omega (arith, there) }
 
 pub overflow_add-d : goal.overflow_add-d
-overflow_add-d c = record { fits = omega (arith, there c) }
+overflow_add-d c =
+    let there : c.args.from + c.args.by * c.loop-b.b < own_size = measure-there _ _ _ _ c.loop-b-test.true c.requires.1 in
+    record { fits = omega (arith, there) }
 
 pub offset_bounds-here-from : goal.offset_bounds-here-from
-offset_bounds-here-from c = record { fits = omega (arith, there c) }
+offset_bounds-here-from c =
+    let there : c.args.from + c.args.by * c.loop-b.b < own_size = measure-there _ _ _ _ c.loop-b-test.true c.requires.1 in
+    record { fits = omega (arith, there) }
 
 pub bounds-here-from : goal.bounds-here-from
-bounds-here-from c = there c
+bounds-here-from c =
+    let there : c.args.from + c.args.by * c.loop-b.b < own_size = measure-there _ _ _ _ c.loop-b-test.true c.requires.1 in
+    there
 
 pub overflow_add-dom : goal.overflow_add-dom
 overflow_add-dom c =

@@ -4,8 +4,8 @@ use Rattle.lines.proofs.Digits.{few, put-digits}
 use Rattle.lines.proofs.put_decimal.Goals as goal
 
 pub put-requires : goal.put-requires
-put-requires c = omega (arith, few c.args.n _ (omega arith) c.decimal-k.ensures.1.0, c.decimal-k.ensures.0.1)
+put-requires c = omega (arith, few c.args.n _ (omega arith) c.decimal-k.ensures.len, c.decimal-k.ensures.in_bounds.1)
 
 pub returns : goal.returns
-returns c = put-digits c.decimal-k.new.1.0 (omega arith) c.decimal-k.ensures.1.0
-    c.decimal-k.ensures.1.1 c.decimal-k.ensures.0.1 c.put.ensures
+returns c = put-digits c.decimal-k.new.out (omega arith) c.decimal-k.ensures.len
+    c.decimal-k.ensures.digits c.decimal-k.ensures.in_bounds.1 c.put.ensures

@@ -1,6 +1,6 @@
 -- `lines::put_lines` meets its contract. Assumes nothing.
 use mathlib.Core.Path.{refl}
-use Prim.Native.Nat.{◌+◌, ◌*◌, ◌-◌}
+use Prim.Native.Nat.{◌+◌, ◌*◌}
 use native.Mathlib.Omega.{arith}
 use lib.IntN.{pos}
 use lib.ListN.{get_or}
@@ -48,7 +48,7 @@ loop-i-preserved c = (
   omega (arith, c.put_line-at.ensures.fits),
   lines_more
       c.args.n c.args.cells.now
-      c.loop-i.out c.put_line-at.new.1.1.1.0
+      c.loop-i.out c.put_line-at.new.out
       c.loop-i.at c.put_line-at.result c.loop-i.i
       (omega arith) c.loop-i.invariant.3
       (as-text c.put_line-at.ensures (as_read c.loop-i.i

@@ -10,41 +10,42 @@ use Rattle.wire_reader.proofs.Laws.{Placed, placed, before-end}
 use Rattle.lists.proofs.Turns.{begin, end-turn, cut-turn, bad-turn, next-turn, not-whole}
 use Rattle.lists.proofs.count_events.Goals as goal
 
--- the field that was read is the whole one that the pattern binds
-whole-at : (c : tie.After-known-told invariant-loop decreases-loop) → field_at c.before.before.before.before.before.before.before.args.s.now
-    c.before.before.before.before.before.loop.at ≡ Whole c.before.f.given.0.0 c.before.f.given.0.1.0 c.before.f.given.0.1.1.0
-    c.before.f.given.0.1.1.1.0
-whole-at c = sym c.before.before.before.read-field.ensures ∙ c.before.f.given.1
-
-place : (c : tie.After-known-told invariant-loop decreases-loop) → Placed c.before.before.before.before.before.before.before.args.s.now
-    c.before.before.before.before.before.loop.at c.before.f.given.0.1.0 c.before.f.given.0.1.1.0 c.before.f.given.0.1.1.1.0
-place c = placed _ _ (whole-at c)
-
 pub loop-at-init : goal.loop-at-init
 loop-at-init c = begin _
 
 pub returns-in_default : goal.returns-in_default
 returns-in_default c =
+    let m = c.before in
     c.refused.ensures
     ∙ ⊎_elim
-    (λ e. cut-turn _ _ _ c.loop-at.invariant (sym c.read_field-f.ensures ∙ e))
-    (λ e. absurd (before-end c.args.s.now c.loop-at.at c.loop-at-test.true
-    (sym c.read_field-f.ensures ∙ e)))
-    (not-whole _ c.in_default.in_default-own.keys2)
+    (λ e. cut-turn _ _ _ m.loop-at.invariant (sym m.read_field-f.ensures ∙ e))
+    (λ e. absurd (before-end m.args.s.now m.loop-at.at m.loop-at-test.true
+    (sym m.read_field-f.ensures ∙ e)))
+    (not-whole _ m.in_default.not-Whole)
 
 pub returns-then-not-is_event : goal.returns-then-not-is_event
 returns-then-not-is_event c =
+    let whole-at : field_at c.args.s.now c.loop-at.at ≡ Whole c.in-Whole.tag c.in-Whole.start c.in-Whole.len c.in-Whole.next = sym c.read_field-f.ensures ∙ c.in-Whole.is in
+    let t = c.before in
     c.refused-then-not-is_event.ensures
-    ∙ bad-turn _ _ _ c.loop-at.invariant _ _ _ _ (whole-at c) (said-no c.is_event.ensures c.if-not-is_event.true-raw)
+    ∙ bad-turn _ _ _ t.loop-at.invariant _ _ _ _ whole-at (said-no t.is_event.ensures t.if-not-is_event.true-raw)
 
 pub overflow_add-n : goal.overflow_add-n
-overflow_add-n c = let p = place c in omega (arith, c.loop-at.invariant.passed)
+overflow_add-n c =
+    let whole-at : field_at c.args.s.now c.loop-at.at ≡ Whole c.in-Whole.tag c.in-Whole.start c.in-Whole.len c.in-Whole.next = sym c.read_field-f.ensures ∙ c.in-Whole.is in
+    let place : Placed c.args.s.now c.loop-at.at c.in-Whole.start c.in-Whole.len c.in-Whole.next = placed _ _ whole-at in
+    let p = place in omega (arith, c.loop-at.invariant.passed)
 
 pub loop-at-smaller : goal.loop-at-smaller
-loop-at-smaller c = let p = place c in omega (arith, c.loop-at-test.true)
+loop-at-smaller c =
+    let whole-at : field_at c.args.s.now c.loop-at.at ≡ Whole c.in-Whole.tag c.in-Whole.start c.in-Whole.len c.in-Whole.next = sym c.read_field-f.ensures ∙ c.in-Whole.is in
+    let place : Placed c.args.s.now c.loop-at.at c.in-Whole.start c.in-Whole.len c.in-Whole.next = placed _ _ whole-at in
+    let p = place in omega (arith, c.loop-at-test.true)
 
 pub loop-at-preserved : goal.loop-at-preserved
-loop-at-preserved c = next-turn _ _ _ c.loop-at.invariant _ _ _ _ (whole-at c) (said-yes c.is_event.ensures c.if-not-is_event.false-raw)
+loop-at-preserved c =
+    let whole-at : field_at c.args.s.now c.loop-at.at ≡ Whole c.in-Whole.tag c.in-Whole.start c.in-Whole.len c.in-Whole.next = sym c.read_field-f.ensures ∙ c.in-Whole.is in
+    next-turn _ _ _ c.loop-at.invariant _ _ _ _ whole-at (said-yes c.is_event.ensures c.if-not-is_event.false-raw)
 
 pub returns : goal.returns
 returns c = c.all_read.ensures ∙ end-turn _ _ _ c.loop-at.invariant c.loop-at-test.false

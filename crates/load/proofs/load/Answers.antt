@@ -9,25 +9,6 @@ use Rattle.wire_reader.proofs.Laws.{placed, Placed}
 use Rattle.load.proofs.Turns.{begin, end-turn, broken-turn, node-refused, nodes-room, node-turn, root-refused, ends-turn, defs-room, define-turn}
 use Rattle.load.proofs.load.Goals as goal
 
--- the field that was read is the whole one that the pattern binds
-found : (c : tie.After-known-told invariant-loop decreases-loop)
-    → field_at c.before.before.before.before.before.before.before.before.args.s.now c.before.before.before.before.before.loop.at
-    ≡ Whole c.before.f.given.0.0 c.before.f.given.0.1.0 c.before.f.given.0.1.1.0 c.before.f.given.0.1.1.1.0
-found c = sym c.before.before.before.read-field.ensures ∙ c.before.f.given.1
-
-where-is : (c : tie.After-known-told invariant-loop decreases-loop)
-    → Placed c.before.before.before.before.before.before.before.before.args.s.now c.before.before.before.before.before.loop.at c.before.f.given.0.1.0
-    c.before.f.given.0.1.1.0 c.before.f.given.0.1.1.1.0
-where-is c = placed _ _ (found c)
-
--- ? no goal for this
--- part-b-start : tie.Need-slice-bounds-b-start invariant-loop decreases-loop
--- part-b-start c = let p = where-is c in omega arith
-
--- ? no goal for this
--- part-b-end : tie.Need-slice-bounds-b-end invariant-loop decreases-loop
--- part-b-end c = let p = where-is c in omega arith
-
 pub loop-at-init : goal.loop-at-init
 loop-at-init c = rw c.none-none.ensures (begin _)
 
@@ -36,10 +17,13 @@ overflow_add-place c = let g = c.loop-at.invariant.state.good in omega (arith, g
 
 pub returns-in_default : goal.returns-in_default
 returns-in_default c =
-    rw c.refuse.ensures (broken-turn _ _ _ _ c.loop-at.invariant c.read_field-f.ensures c.in_default.in_default-own.keys2 c.loop-at-test.true)
+    rw c.refuse.ensures (broken-turn _ _ _ _ c.loop-at.invariant c.read_field-f.ensures c.in_default.not-Whole c.loop-at-test.true)
 
 pub slice_bounds-b-count : goal.slice_bounds-b-count
-slice_bounds-b-count c = let p = where-is c in omega arith
+slice_bounds-b-count c =
+    let found : field_at c.args.s.now c.loop-at.at ≡ Whole c.in-Whole.tag c.in-Whole.start c.in-Whole.len c.in-Whole.next = sym c.read_field-f.ensures ∙ c.in-Whole.is in
+    let where-is : Placed c.args.s.now c.loop-at.at c.in-Whole.start c.in-Whole.len c.in-Whole.next = placed _ _ found in
+    let p = where-is in omega arith
 
 pub read_node-r-requires : goal.read_node-r-requires
 read_node-r-requires c =
@@ -47,84 +31,89 @@ read_node-r-requires c =
 
 pub returns-then-r-ne0 : goal.returns-then-r-ne0
 returns-then-r-ne0 c =
-    let b10 = c in
-    rw c.refuse-then-r-ne0.ensures (node-refused _ _ _ _ c.loop-at.invariant _ _ _ _ _ (found (b10)) refl c.if-tag-eq1.true c.read_node-r.ensures c.if-r-ne0.true)
+    let found : field_at c.args.s.now c.loop-at.at ≡ Whole c.in-Whole.tag c.in-Whole.start c.in-Whole.len c.in-Whole.next = sym c.read_field-f.ensures ∙ c.in-Whole.is in
+    rw c.refuse-then-r-ne0.ensures (node-refused _ _ _ _ c.loop-at.invariant _ _ _ _ _ found refl c.if-tag-eq1.true c.read_node-r.ensures c.if-r-ne0.true)
 
 pub offset_bounds-nodes-n : goal.offset_bounds-nodes-n
 offset_bounds-nodes-n c =
-    let b10 = c in
-    let p : c.loop-at.n < node_limit = nodes-room _ _ _ _ c.loop-at.invariant _ _ _ _ _ (found (b10)) refl c.if-tag-eq1.true c.read_node-r.ensures c.if-r-ne0.false in omega
+    let found : field_at c.args.s.now c.loop-at.at ≡ Whole c.in-Whole.tag c.in-Whole.start c.in-Whole.len c.in-Whole.next = sym c.read_field-f.ensures ∙ c.in-Whole.is in
+    let p : c.loop-at.n < node_limit = nodes-room _ _ _ _ c.loop-at.invariant _ _ _ _ _ found refl c.if-tag-eq1.true c.read_node-r.ensures c.if-r-ne0.false in omega
     (arith, c.loop-at.invariant.state.good.long_nodes)
 
 pub bounds-nodes-n : goal.bounds-nodes-n
 bounds-nodes-n c =
-    let b10 = c in
-    let p : c.loop-at.n < node_limit = nodes-room _ _ _ _ c.loop-at.invariant _ _ _ _ _ (found (b10)) refl c.if-tag-eq1.true c.read_node-r.ensures c.if-r-ne0.false in omega
+    let found : field_at c.args.s.now c.loop-at.at ≡ Whole c.in-Whole.tag c.in-Whole.start c.in-Whole.len c.in-Whole.next = sym c.read_field-f.ensures ∙ c.in-Whole.is in
+    let p : c.loop-at.n < node_limit = nodes-room _ _ _ _ c.loop-at.invariant _ _ _ _ _ found refl c.if-tag-eq1.true c.read_node-r.ensures c.if-r-ne0.false in omega
     (arith, c.loop-at.invariant.state.good.long_nodes)
 
 pub overflow_add-n : goal.overflow_add-n
 overflow_add-n c =
-    let b10 = c in
-    let p : c.loop-at.n < node_limit = nodes-room _ _ _ _ c.loop-at.invariant _ _ _ _ _ (found (b10)) refl c.if-tag-eq1.true c.read_node-r.ensures c.if-r-ne0.false in omega
+    let found : field_at c.args.s.now c.loop-at.at ≡ Whole c.in-Whole.tag c.in-Whole.start c.in-Whole.len c.in-Whole.next = sym c.read_field-f.ensures ∙ c.in-Whole.is in
+    let p : c.loop-at.n < node_limit = nodes-room _ _ _ _ c.loop-at.invariant _ _ _ _ _ found refl c.if-tag-eq1.true c.read_node-r.ensures c.if-r-ne0.false in omega
     (arith, c.loop-at.invariant.state.good.long_nodes)
 
 pub loop-at-smaller-then-tag-eq1 : goal.loop-at-smaller-then-tag-eq1
 loop-at-smaller-then-tag-eq1 c =
-    let b10 = c in
-    let p = where-is (b10) in omega (arith, c.loop-at-test.true)
+    let found : field_at c.args.s.now c.loop-at.at ≡ Whole c.in-Whole.tag c.in-Whole.start c.in-Whole.len c.in-Whole.next = sym c.read_field-f.ensures ∙ c.in-Whole.is in
+    let where-is : Placed c.args.s.now c.loop-at.at c.in-Whole.start c.in-Whole.len c.in-Whole.next = placed _ _ found in
+    let p = where-is in omega (arith, c.loop-at-test.true)
 
 pub loop-at-preserved-then-tag-eq1 : goal.loop-at-preserved-then-tag-eq1
 loop-at-preserved-then-tag-eq1 c =
-    let b10 = c in
-    node-turn _ _ _ _ c.loop-at.invariant _ _ _ _ _ (found (b10)) refl c.if-tag-eq1.true c.read_node-r.ensures c.if-r-ne0.false
+    let found : field_at c.args.s.now c.loop-at.at ≡ Whole c.in-Whole.tag c.in-Whole.start c.in-Whole.len c.in-Whole.next = sym c.read_field-f.ensures ∙ c.in-Whole.is in
+    node-turn _ _ _ _ c.loop-at.invariant _ _ _ _ _ found refl c.if-tag-eq1.true c.read_node-r.ensures c.if-r-ne0.false
 
 pub root_number-e-requires : goal.root_number-e-requires
 root_number-e-requires c = (c.if-tag-eq1.false, c.loop-at.invariant.state.named.long)
 
 pub returns-then-e-ne0 : goal.returns-then-e-ne0
 returns-then-e-ne0 c =
-    let b6 = c in
-    rw c.refuse-then-e-ne0.ensures (root-refused _ _ _ _ c.loop-at.invariant _ _ _ _ _ (found (b6)) refl c.if-tag-eq1.false c.root_number-e.ensures c.if-e-ne0.true)
+    let found : field_at c.args.s.now c.loop-at.at ≡ Whole c.in-Whole.tag c.in-Whole.start c.in-Whole.len c.in-Whole.next = sym c.read_field-f.ensures ∙ c.in-Whole.is in
+    rw c.refuse-then-e-ne0.ensures (root-refused _ _ _ _ c.loop-at.invariant _ _ _ _ _ found refl c.if-tag-eq1.false c.root_number-e.ensures c.if-e-ne0.true)
 
 pub overflow_sub-s : goal.overflow_sub-s
-overflow_sub-s c = let p = where-is c in omega arith
+overflow_sub-s c =
+    let found : field_at c.args.s.now c.loop-at.at ≡ Whole c.in-Whole.tag c.in-Whole.start c.in-Whole.len c.in-Whole.next = sym c.read_field-f.ensures ∙ c.in-Whole.is in
+    let where-is : Placed c.args.s.now c.loop-at.at c.in-Whole.start c.in-Whole.len c.in-Whole.next = placed _ _ found in
+    let p = where-is in omega arith
 
 pub ended-requires : goal.ended-requires
 ended-requires c = rw c.hold-t.ensures c.loop-at.invariant.state.good.n
 
 pub returns-then-tag-eq3 : goal.returns-then-tag-eq3
 returns-then-tag-eq3 c =
-    let b10 = c in
-    rw (c.ended.ensures, c.hold-t.ensures) (ends-turn _ _ _ _ c.loop-at.invariant _ _ _ _ _ (found (b10)) refl c.if-tag-eq1.false c.root_number-e.ensures
+    let found : field_at c.args.s.now c.loop-at.at ≡ Whole c.in-Whole.tag c.in-Whole.start c.in-Whole.len c.in-Whole.next = sym c.read_field-f.ensures ∙ c.in-Whole.is in
+    rw (c.ended.ensures, c.hold-t.ensures) (ends-turn _ _ _ _ c.loop-at.invariant _ _ _ _ _ found refl c.if-tag-eq1.false c.root_number-e.ensures
     c.if-e-ne0.false c.if-tag-eq3.true c.get-first.ensures)
 
 pub bounds-counts-defs : goal.bounds-counts-defs
 bounds-counts-defs c =
-    let b7 = c in
-    let p : c.loop-at.defs < definition_limit = defs-room _ _ _ _ c.loop-at.invariant _ _ _ _ _ (found (b7)) refl c.if-tag-eq1.false c.root_number-e.ensures
+    let found : field_at c.args.s.now c.loop-at.at ≡ Whole c.in-Whole.tag c.in-Whole.start c.in-Whole.len c.in-Whole.next = sym c.read_field-f.ensures ∙ c.in-Whole.is in
+    let p : c.loop-at.defs < definition_limit = defs-room _ _ _ _ c.loop-at.invariant _ _ _ _ _ found refl c.if-tag-eq1.false c.root_number-e.ensures
     c.if-e-ne0.false c.if-tag-eq3.false in omega (arith, c.loop-at.invariant.state.good.long_counts, c.loop-at.invariant.state.good.long_bodies)
 
 pub bounds-bodies-defs : goal.bounds-bodies-defs
 bounds-bodies-defs c =
-    let b8 = c in
-    let p : c.loop-at.defs < definition_limit = defs-room _ _ _ _ c.loop-at.invariant _ _ _ _ _ (found (b8)) refl c.if-tag-eq1.false c.root_number-e.ensures c.if-e-ne0.false
+    let found : field_at c.args.s.now c.loop-at.at ≡ Whole c.in-Whole.tag c.in-Whole.start c.in-Whole.len c.in-Whole.next = sym c.read_field-f.ensures ∙ c.in-Whole.is in
+    let p : c.loop-at.defs < definition_limit = defs-room _ _ _ _ c.loop-at.invariant _ _ _ _ _ found refl c.if-tag-eq1.false c.root_number-e.ensures c.if-e-ne0.false
     c.if-tag-eq3.false in omega (arith, c.loop-at.invariant.state.good.long_counts, c.loop-at.invariant.state.good.long_bodies)
 
 pub overflow_add-defs : goal.overflow_add-defs
 overflow_add-defs c =
-    let b8 = c in
-    let p : c.loop-at.defs < definition_limit = defs-room _ _ _ _ c.loop-at.invariant _ _ _ _ _ (found (b8)) refl c.if-tag-eq1.false c.root_number-e.ensures c.if-e-ne0.false
+    let found : field_at c.args.s.now c.loop-at.at ≡ Whole c.in-Whole.tag c.in-Whole.start c.in-Whole.len c.in-Whole.next = sym c.read_field-f.ensures ∙ c.in-Whole.is in
+    let p : c.loop-at.defs < definition_limit = defs-room _ _ _ _ c.loop-at.invariant _ _ _ _ _ found refl c.if-tag-eq1.false c.root_number-e.ensures c.if-e-ne0.false
     c.if-tag-eq3.false in omega (arith, c.loop-at.invariant.state.good.long_counts, c.loop-at.invariant.state.good.long_bodies)
 
 pub loop-at-smaller : goal.loop-at-smaller
 loop-at-smaller c =
-    let b8 = c in
-    let p = where-is (b8) in omega (arith, c.loop-at-test.true)
+    let found : field_at c.args.s.now c.loop-at.at ≡ Whole c.in-Whole.tag c.in-Whole.start c.in-Whole.len c.in-Whole.next = sym c.read_field-f.ensures ∙ c.in-Whole.is in
+    let where-is : Placed c.args.s.now c.loop-at.at c.in-Whole.start c.in-Whole.len c.in-Whole.next = placed _ _ found in
+    let p = where-is in omega (arith, c.loop-at-test.true)
 
 pub loop-at-preserved : goal.loop-at-preserved
 loop-at-preserved c =
-    let b8 = c in
-    define-turn _ _ _ _ c.loop-at.invariant _ _ _ _ _ (found (b8)) refl c.if-tag-eq1.false c.root_number-e.ensures c.if-e-ne0.false c.if-tag-eq3.false
+    let found : field_at c.args.s.now c.loop-at.at ≡ Whole c.in-Whole.tag c.in-Whole.start c.in-Whole.len c.in-Whole.next = sym c.read_field-f.ensures ∙ c.in-Whole.is in
+    define-turn _ _ _ _ c.loop-at.invariant _ _ _ _ _ found refl c.if-tag-eq1.false c.root_number-e.ensures c.if-e-ne0.false c.if-tag-eq3.false
     c.get-first.ensures c.get.ensures
 
 pub returns : goal.returns

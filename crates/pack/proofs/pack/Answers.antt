@@ -5,16 +5,15 @@ use Rattle.pack.specs.Packs.{kind_of, item_of}
 use native.Mathlib.Omega.{arith}
 use Prim.Native.Nat.{◌-◌}
 use mathlib.Core.Path.{◌≡◌}
-use mathlib.Core.Logic.{⊎_elim}
 use Rattle.pack.proofs.pack.Goals as goal
+use Rattle.pack.proofs.pack.Goals.{then-x-eq0, else-x-eq0+then-x-eq-OPERATOR, else-x-eq0+else-x-eq-OPERATOR}
 
 pub clear-requires : goal.clear-requires
 clear-requires c = c.requires.1
 
 pub loop-i-init : goal.loop-i-init
 loop-i-init c =
-    let b3 = c in
-    let s = b3 in (begins s.args.t1 s.requires.0 c.clear.ensures, column-none kind_of s.args.t1 s.requires.2, column-none item_of s.args.t1 s.requires.3)
+    (begins c.args.t c.requires.0 c.clear.ensures, column-none kind_of c.args.t c.requires.2, column-none item_of c.args.t c.requires.3)
 
 pub bounds-t-i : goal.bounds-t-i
 bounds-t-i c = omega (arith, c.loop-i.invariant.0.upto)
@@ -27,24 +26,21 @@ bounds-items-i c = omega (arith, c.loop-i.invariant.2.long)
 
 pub childless_word-requires : goal.childless_word-requires
 childless_word-requires c =
-    let b5 = c in
-    let l = b5 in childless l.before.before.before.before.args.t1 l.before.before.before.before.requires.0 l.loop.invariant.0 c.loop-i-test.true c.if-x-eq0.true
+    childless c.args.t c.requires.0 c.loop-i.invariant.0 c.loop-i-test.true c.if-x-eq0.true
 
 pub bounds-ws-i : goal.bounds-ws-i
 bounds-ws-i c = omega (arith, c.loop-i.invariant.0.long)
 
 pub operator_word-requires : goal.operator_word-requires
 operator_word-requires c =
-    let b12 = c in
-    let l = b12 in operator l.before.before.before.before.args.t1 l.before.before.before.before.requires.0 l.loop.invariant.0 c.loop-i-test.true c.if-x-eq-OPERATOR.true
+    operator c.args.t c.requires.0 c.loop-i.invariant.0 c.loop-i-test.true c.if-x-eq-OPERATOR.true
 
 pub bounds-ws-i-then-x-eq-OPERATOR : goal.bounds-ws-i-then-x-eq-OPERATOR
 bounds-ws-i-then-x-eq-OPERATOR c = omega (arith, c.loop-i.invariant.0.long)
 
 pub word_of-requires : goal.word_of-requires
 word_of-requires c =
-    let b10 = c in
-    let l = b10 in fits l.before.before.before.before.args.t1 l.before.before.before.before.requires.0 l.loop.i c.loop-i-test.true
+    fits c.args.t c.requires.0 c.loop-i.i c.loop-i-test.true
 
 pub bounds-ws-i-else-x-eq-OPERATOR : goal.bounds-ws-i-else-x-eq-OPERATOR
 bounds-ws-i-else-x-eq-OPERATOR c = omega (arith, c.loop-i.invariant.0.long)
@@ -54,25 +50,28 @@ overflow_cast-i c = omega arith
 
 pub broken-requires : goal.broken-requires
 broken-requires c =
-    let b11 = c in
-    let l = b11 in (fits l.before.before.before.before.args.t1 l.before.before.before.before.requires.0 l.loop.i c.loop-i-test.true).kind
+    (fits c.args.t c.requires.0 c.loop-i.i c.loop-i-test.true).kind
 
 pub loop-i-preserved : goal.loop-i-preserved
 loop-i-preserved c =
-    let t = c.args.t1 in
+    let t = c.args.t in
     let g = c.requires.0 in
     let s = c.loop-i.invariant in
     let h = c.loop-i-test.true in (
-      ⊎_elim (λ w. rw (w.2, w.3) (childless-goes t g s.0 h w.0.taken w.1.ensures))
-          (λ v. ⊎_elim (λ w. rw (w.9, w.10) (operator-goes t g s.0 h w.2.taken w.4.ensures w.6.ensures w.7.ensures w.8.ensures))
-          (λ w. rw (w.9, w.10) (goes t g s.0 h w.4.ensures w.5.ensures w.6.ensures w.7.ensures w.8.ensures)) v) c.if-x-eq0.branch,
+      elim c.if-x-eq0.branch [
+        | then-x-eq0 w ↦ rw (w.ws-is, w.r-is) (childless-goes t g s.0 h w.if-x-eq0.true w.childless_word.ensures)
+        | else-x-eq0+then-x-eq-OPERATOR w ↦ rw (w.ws-is, w.r-is)
+            (operator-goes t g s.0 h w.if-x-eq-OPERATOR.true w.is_field.ensures w.is_field-then-x-eq-OPERATOR.ensures w.either.ensures w.operator_word.ensures)
+        | else-x-eq0+else-x-eq-OPERATOR w ↦ rw (w.ws-is, w.r-is)
+            (goes t g s.0 h w.flags_of-s.ensures w.either-else-x-eq-OPERATOR.ensures w.word_of.ensures w.broken.ensures w.first_bad-r.ensures)
+      ],
       column-more kind_of t (omega arith) s.1,
       column-more item_of t (omega arith) s.2,
     )
 
 pub returns : goal.returns
 returns c =
-    let t = c.args.t1 in
+    let t = c.args.t in
     let e : c.loop-i.i ≡ t.n = omega (arith, c.loop-i.invariant.0.upto, c.loop-i-test.false) in (
       packs t c.requires.0 (rw e at c.loop-i.invariant.0) (t.defs - 0) c.lower_field.ensures (omega arith) c.lowest_field.ensures,
       rw e at

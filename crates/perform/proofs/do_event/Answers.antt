@@ -1,5 +1,6 @@
 -- `perform::do_event` meets its contract. Assumes nothing.
 use mathlib.Core.Path.{ap}
+use mir.Syntax.{w32}
 use mir.Facts.{to_z-of_z}
 use borrow.Author.Rules.{sfits_of}
 use Rattle.perform.specs.Performs.{meant}
@@ -19,7 +20,7 @@ pub returns-in-Lose : goal.returns-in-Lose
 returns-in-Lose c = acts _ (ap meant c.e-in-Lose-1.is) c.lose.ensures
 
 pub returns-in-Link : goal.returns-in-Link
-returns-in-Link c = acts _ (ap meant c.e-in-Link-1.is) (rw (to_z-of_z (sfits_of c.known_told-in-Link-1.known_told-in-Link-1-own.given.1.1.0.1)) at c.link.ensures)
+returns-in-Link c = acts _ (ap meant c.e-in-Link-1.is) (rw (to_z-of_z {w = w32} (sfits_of c.known_told-in-Link-1.known_told-in-Link-1-own.given.1.1.0.1)) at c.link.ensures)
 
 pub returns-in-Signal : goal.returns-in-Signal
 returns-in-Signal c = acts _ (ap meant c.e-in-Signal-1.is) c.signal.ensures

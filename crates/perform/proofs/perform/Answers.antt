@@ -14,26 +14,6 @@ use Rattle.lists.proofs.Turns.{not-whole}
 use Rattle.perform.proofs.Laws.{begin, end-turn, not-cut, has_cells, next-turn}
 use Rattle.perform.proofs.perform.Goals as goal
 
--- the field that was read is the whole one that the pattern binds; its places, and room for its answer
-whole-at : (c : tie.After-known-told invariant-loop decreases-loop) → field_at c.before.before.before.before.before.before.before.args.list.now
-    c.before.before.before.before.before.loop.at ≡ Whole c.before.f.given.0.0 c.before.f.given.0.1.0 c.before.f.given.0.1.1.0
-    c.before.f.given.0.1.1.1.0
-whole-at c = sym c.before.before.before.read-field.ensures ∙ c.before.f.given.1
-
-place : (c : tie.After-known-told invariant-loop decreases-loop) → Placed c.before.before.before.before.before.before.before.args.list.now
-    c.before.before.before.before.before.loop.at c.before.f.given.0.1.0 c.before.f.given.0.1.1.0 c.before.f.given.0.1.1.1.0
-place c = placed _ _ (whole-at c)
-
-cells_at : (c : tie.After-known-told invariant-loop decreases-loop) → answer_width * c.before.before.before.before.before.loop.k + answer_width ≤ length c.before.before.before.before.before.loop.space
-cells_at c = has_cells c.before.before.before.before.before.loop.invariant (whole-at c)
-
--- where the field was read of an event that was done
-abbrev read_of : tie.After-struct-told2 invariant-loop decreases-loop → tie.After-known-told invariant-loop decreases-loop
-read_of c = c.before.before.before.before.before.before.before
-
-abbrev turn : tie.After-known-told invariant-loop decreases-loop → tie.In-loop invariant-loop decreases-loop
-turn c = c.before.before.before.before
-
 pub loop-at-init : goal.loop-at-init
 loop-at-init c = begin c.requires
 
@@ -44,54 +24,85 @@ pub shape_of-space-in_default : goal.shape_of-space-in_default
 shape_of-space-in_default c = c.loop-at.invariant.wide
 
 -- no list that was read is cut short
+
 pub returns-in_default : goal.returns-in_default
 returns-in_default c =
     let e = sym c.read_field-f.ensures in
     ⊎_elim (λ q. absurd (not-cut c.loop-at.invariant (e ∙ q))) (λ q. absurd (before-end c.args.list.now c.loop-at.at c.loop-at-test.true (e ∙ q)))
-    (not-whole _ c.in_default.in_default-own.keys2)
+    (not-whole _ c.in_default.not-Whole)
 
 pub event_of-e-requires : goal.event_of-e-requires
-event_of-e-requires c = let p = place c in omega arith
+event_of-e-requires c =
+    let whole-at : field_at c.args.list.now c.loop-at.at ≡ Whole c.in-Whole.tag c.in-Whole.start c.in-Whole.len c.in-Whole.next = sym c.read_field-f.ensures ∙ c.in-Whole.is in
+    let place : Placed c.args.list.now c.loop-at.at c.in-Whole.start c.in-Whole.len c.in-Whole.next = placed _ _ whole-at in
+    let p = place in omega arith
 
 pub do_event-r-requires : goal.do_event-r-requires
 do_event-r-requires c =
-    let l = (turn c).before in
-    let r = l.before.before.pre.ready in
-    (record { whole = l.loop.inv.whole; idle = l.loop.inv.idle; sound = r.sound; inside = r.inside; sort = r.sort }, l.loop.inv.lit)
+    let r = c.requires.ready in
+    (record { whole = c.loop-at.inv.whole; idle = c.loop-at.inv.idle; sound = r.sound; inside = r.inside; sort = r.sort }, c.loop-at.inv.lit)
 
 pub overflow_mul-code : goal.overflow_mul-code
-overflow_mul-code c = let h = cells_at (read_of c) in search rules
+overflow_mul-code c =
+    let whole-at : field_at c.args.list.now c.loop-at.at ≡ Whole c.in-Whole.tag c.in-Whole.start c.in-Whole.len c.in-Whole.next = sym c.read_field-f.ensures ∙ c.in-Whole.is in
+    let cells_at : answer_width * c.loop-at.k + answer_width ≤ length c.loop-at.space = has_cells c.loop-at.invariant whole-at in
+    let h = cells_at in search rules
 
 pub offset_bounds-space-k : goal.offset_bounds-space-k
-offset_bounds-space-k c = let h = cells_at (read_of c) in search rules
+offset_bounds-space-k c =
+    let whole-at : field_at c.args.list.now c.loop-at.at ≡ Whole c.in-Whole.tag c.in-Whole.start c.in-Whole.len c.in-Whole.next = sym c.read_field-f.ensures ∙ c.in-Whole.is in
+    let cells_at : answer_width * c.loop-at.k + answer_width ≤ length c.loop-at.space = has_cells c.loop-at.invariant whole-at in
+    let h = cells_at in search rules
 
 pub bounds-space-k : goal.bounds-space-k
-bounds-space-k c = let h = cells_at (read_of c) in search rules
+bounds-space-k c =
+    let whole-at : field_at c.args.list.now c.loop-at.at ≡ Whole c.in-Whole.tag c.in-Whole.start c.in-Whole.len c.in-Whole.next = sym c.read_field-f.ensures ∙ c.in-Whole.is in
+    let cells_at : answer_width * c.loop-at.k + answer_width ≤ length c.loop-at.space = has_cells c.loop-at.invariant whole-at in
+    let h = cells_at in search rules
 
 pub overflow_mul-value : goal.overflow_mul-value
-overflow_mul-value c = let h = cells_at (read_of c) in search rules
+overflow_mul-value c =
+    let whole-at : field_at c.args.list.now c.loop-at.at ≡ Whole c.in-Whole.tag c.in-Whole.start c.in-Whole.len c.in-Whole.next = sym c.read_field-f.ensures ∙ c.in-Whole.is in
+    let cells_at : answer_width * c.loop-at.k + answer_width ≤ length c.loop-at.space = has_cells c.loop-at.invariant whole-at in
+    let h = cells_at in search rules
 
 pub overflow_add-value : goal.overflow_add-value
-overflow_add-value c = let h = cells_at (read_of c) in search rules
+overflow_add-value c =
+    let whole-at : field_at c.args.list.now c.loop-at.at ≡ Whole c.in-Whole.tag c.in-Whole.start c.in-Whole.len c.in-Whole.next = sym c.read_field-f.ensures ∙ c.in-Whole.is in
+    let cells_at : answer_width * c.loop-at.k + answer_width ≤ length c.loop-at.space = has_cells c.loop-at.invariant whole-at in
+    let h = cells_at in search rules
 
 pub offset_bounds-space-k-in-loop-at : goal.offset_bounds-space-k-in-loop-at
-offset_bounds-space-k-in-loop-at c = let h = cells_at (read_of c) in search rules
+offset_bounds-space-k-in-loop-at c =
+    let whole-at : field_at c.args.list.now c.loop-at.at ≡ Whole c.in-Whole.tag c.in-Whole.start c.in-Whole.len c.in-Whole.next = sym c.read_field-f.ensures ∙ c.in-Whole.is in
+    let cells_at : answer_width * c.loop-at.k + answer_width ≤ length c.loop-at.space = has_cells c.loop-at.invariant whole-at in
+    let h = cells_at in search rules
 
 pub bounds-space-k-in-loop-at : goal.bounds-space-k-in-loop-at
-bounds-space-k-in-loop-at c = let h = cells_at (read_of c) in simp length-set (omega arith)
+bounds-space-k-in-loop-at c =
+    let whole-at : field_at c.args.list.now c.loop-at.at ≡ Whole c.in-Whole.tag c.in-Whole.start c.in-Whole.len c.in-Whole.next = sym c.read_field-f.ensures ∙ c.in-Whole.is in
+    let cells_at : answer_width * c.loop-at.k + answer_width ≤ length c.loop-at.space = has_cells c.loop-at.invariant whole-at in
+    let h = cells_at in simp length-set (omega arith)
 
 pub overflow_add-k : goal.overflow_add-k
-overflow_add-k c = let h = cells_at (read_of c) in search rules
+overflow_add-k c =
+    let whole-at : field_at c.args.list.now c.loop-at.at ≡ Whole c.in-Whole.tag c.in-Whole.start c.in-Whole.len c.in-Whole.next = sym c.read_field-f.ensures ∙ c.in-Whole.is in
+    let cells_at : answer_width * c.loop-at.k + answer_width ≤ length c.loop-at.space = has_cells c.loop-at.invariant whole-at in
+    let h = cells_at in search rules
 
 pub loop-at-smaller : goal.loop-at-smaller
-loop-at-smaller c = let p = place (read_of c) in omega (arith, (turn (read_of c)).loop-test.taken)
+loop-at-smaller c =
+    let whole-at : field_at c.args.list.now c.loop-at.at ≡ Whole c.in-Whole.tag c.in-Whole.start c.in-Whole.len c.in-Whole.next = sym c.read_field-f.ensures ∙ c.in-Whole.is in
+    let place : Placed c.args.list.now c.loop-at.at c.in-Whole.start c.in-Whole.len c.in-Whole.next = placed _ _ whole-at in
+    let p = place in omega (arith, c.loop-at-test.taken)
 
 pub loop-at-preserved : goal.loop-at-preserved
 loop-at-preserved c =
+    let whole-at : field_at c.args.list.now c.loop-at.at ≡ Whole c.in-Whole.tag c.in-Whole.start c.in-Whole.len c.in-Whole.next = sym c.read_field-f.ensures ∙ c.in-Whole.is in
     let d = c.do_event-r in
     let e = c.event_of-e in
     rw (to_z-of_z {z = d.result.code} (sfits_of c.struct_told-1.given.0.1), to_z-of_z {z = d.result.value} (sfits_of c.struct_told-in-loop-at-1.given.1.0.1))
-    (next-turn (turn (read_of c)).before.loop.inv (whole-at (read_of c)) e.result d.result _ c.net-1.given e.ensures d.ensures)
+    (next-turn c.loop-at.inv whole-at e.result d.result _ c.net-1.given e.ensures d.ensures)
 
 pub shape_of-net : goal.shape_of-net
 shape_of-net c = c.loop-at.invariant.whole ∙ sym c.requires.ready.whole

@@ -8,23 +8,6 @@ use Rattle.scan.proofs.Blocks.{past-variables}
 use Rattle.scan.proofs.First.{start, more, fewer, next-device, lowest, all_sound}
 use Rattle.scan.proofs.first_unsound.Goals as goal
 
-block-sound-requires :
-    tie.Need-block-sound-requires invariant-loop2 decreases-loop2 invariant-loop decreases-loop invariant-search decreases-search
-block-sound-requires c κs = (c.before.before.requires, c.search-test.true)
-
-sensors-sound-requires :
-    tie.Need-sensors-sound-requires invariant-loop2 decreases-loop2 invariant-loop decreases-loop invariant-search decreases-search
-sensors-sound-requires c κs = (c.before.before.before.before.requires, c.before.before.search-test.true)
-
-cell-sound-requires :
-    tie.Need-cell-sound-requires invariant-loop2 decreases-loop2 invariant-loop decreases-loop invariant-search decreases-search
-cell-sound-requires c κs = (
-  c.before.before.before.before.before.before.before.before.before.before.requires,
-  c.before.before.before.before.before.before.before.before.search-test.true,
-  c.before.before.loop-test.true,
-  c.loop2-test.true,
-)
-
 pub search-init : goal.search-init
 search-init c = (refl, omega arith, start _ _ refl refl)
 

@@ -25,7 +25,7 @@ loop-i-preserved c =
     let x = to_z-of_z {w = w32} {z = get_or s.net.now (s.at + l.i) (pos 0)} (sfits_of c.differs-arg-1.given) in (
       omega arith,
       λ q. let k = both (eqb l.other 0) (eqb c.differs-other.result 0) (sym (or-zero l.other c.differs-other.result) ∙ q) in
-          cell-more _ refl (l.invariant.1 k.0) (sym x ∙ c.differs-other.ensures (eqb-true _ 0 k.1) ∙ to_z-of_z (sfits_of c.wanted.type_inv) ∙ c.wanted.ensures),
+          cell-more _ refl (l.invariant.1 k.0) (sym x ∙ c.differs-other.ensures (eqb-true _ 0 k.1) ∙ to_z-of_z {w = w32} (sfits_of c.wanted.type_inv) ∙ c.wanted.ensures),
     )
 
 pub returns : goal.returns

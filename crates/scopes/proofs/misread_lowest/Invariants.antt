@@ -1,5 +1,5 @@
 -- `scopes::misread_lowest` keeps this in its loops.
-use Prim.Native.Nat.{◌-◌, ◌≤◌}
+use Prim.Native.Nat.{◌≤◌}
 use lib.ListN.{drop}
 use Rattle.program.specs.Check.{misread_in}
 use Rattle.program.specs.Table.{Table}

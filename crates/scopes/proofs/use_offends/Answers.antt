@@ -1,5 +1,4 @@
 -- `scopes::use_offends` meets its contract. Assumes nothing.
-use Prim.Native.Nat.{◌-◌}
 use native.Mathlib.Omega.{arith}
 use borrow.Author.Count.{below_none}
 use Rattle.scopes.proofs.Calls.{no-flags, more-flags, same_flags, passes_over, passes, stops, ends}
