@@ -1,10 +1,10 @@
 -- `scope_pass::clean` meets its contract. Assumes nothing.
 use mathlib.Core.Path.{sym}
 use mathlib.Core.Bool.{true≢false}
-use Prim.Native.Nat.{ℕ, ◌-◌}
+use Prim.Native.Nat.{ℕ}
 use native.Mathlib.Omega.{arith}
 use lib.ListN.{length-replicate}
-use borrow.Author.Tests.{eqb-true, not-false}
+use borrow.Author.Tests.{eqb-true}
 use borrow.Author.Count.{below_none, below_more}
 use Rattle.program.specs.Table.{node_limit}
 use Rattle.scope_pass.proofs.Notes.{body_clean, root-clean}
@@ -21,7 +21,7 @@ returns-then-not-within c = λ e. absurd (true≢false (sym e))
 
 pub loop-d-preserved : goal.loop-d-preserved
 loop-d-preserved c =
-    (omega arith, below_more _ c.loop-d.d c.loop-d.invariant.1 (body_clean c.args.main c.note.ensures (c.within.ensures (not-false c.within.result c.if-not-within.false-raw))))
+    (omega arith, below_more _ c.loop-d.d c.loop-d.invariant.1 (body_clean c.args.main c.note.ensures (c.within.ensures c.if-not-within.false)))
 
 pub returns : goal.returns
 returns c =

@@ -1,6 +1,6 @@
 -- `scope_pass::note` meets its contract. Assumes nothing.
 use mathlib.Core.Path.{◌≡◌}
-use Prim.Native.Nat.{◌+◌, ◌-◌}
+use Prim.Native.Nat.{◌+◌}
 use native.Mathlib.Omega.{arith}
 use Rattle.scope_pass.proofs.Notes.{notes-none, notes-more, named}
 use Rattle.scope_pass.proofs.note.Goals as goal
