@@ -3,7 +3,7 @@
 // functions at the end of this header (static inline) are for hosts: they are tested (tests/inline.c), not proved.
 //
 // Platform: x86-64 with the System V calling convention, ELF; Linux as built here. Another target needs the Rattle kit's compiler for
-// it (`rt staticlib` writes x86-64 only); this header then holds as it is, where size_t has 64 bits.
+// it (`tools/build library` builds for x86-64 only); this header then holds as it is, where size_t has 64 bits.
 //
 // A slice is passed as a pointer and its length in elements. What the host owes, and all that it owes:
 // - the pointer is aligned for its type and points to that many elements, which can be read (and written, where it isn't const);
