@@ -20,7 +20,7 @@ use unpack::{
 };
 
 // A node that gives a number: a leaf in place, any other by its own walk. number_at has the forms that three divides: operator, if, call, pair.
-#[cycle(argument_call_call_at_field_at_field_if_at_field_side_fold_at_fold_by_if_at_more_at_mux_at_nbr_at_number_at_number_side_operand_operator_at_other_at_rep_at_sense_at)]
+#[cycle(evaluator)]
 fn operand(
     t: &[u64; NODES],
     u: &[u16; NODES],
@@ -44,7 +44,7 @@ fn operand(
 }
 
 // The forms that arithmetic is made of, and calls; the others are in `other_at`.
-#[cycle(argument_call_call_at_field_at_field_if_at_field_side_fold_at_fold_by_if_at_more_at_mux_at_nbr_at_number_at_number_side_operand_operator_at_other_at_rep_at_sense_at)]
+#[cycle(evaluator)]
 fn number_at(
     t: &[u64; NODES],
     u: &[u16; NODES],
@@ -74,7 +74,7 @@ fn number_at(
 }
 
 // A side of an operator on numbers.
-#[cycle(argument_call_call_at_field_at_field_if_at_field_side_fold_at_fold_by_if_at_more_at_mux_at_nbr_at_number_at_number_side_operand_operator_at_other_at_rep_at_sense_at)]
+#[cycle(evaluator)]
 fn number_side(
     t: &[u64; NODES],
     u: &[u16; NODES],
@@ -94,7 +94,7 @@ fn number_side(
 }
 
 // An operator on two numbers.
-#[cycle(argument_call_call_at_field_at_field_if_at_field_side_fold_at_fold_by_if_at_more_at_mux_at_nbr_at_number_at_number_side_operand_operator_at_other_at_rep_at_sense_at)]
+#[cycle(evaluator)]
 fn operator_at(
     t: &[u64; NODES],
     u: &[u16; NODES],
@@ -120,7 +120,7 @@ fn operator_at(
 }
 
 // An if: the variables of the other branch are erased, then one branch is evaluated.
-#[cycle(argument_call_call_at_field_at_field_if_at_field_side_fold_at_fold_by_if_at_more_at_mux_at_nbr_at_number_at_number_side_operand_operator_at_other_at_rep_at_sense_at)]
+#[cycle(evaluator)]
 fn if_at(
     t: &[u64; NODES],
     u: &[u16; NODES],
@@ -152,7 +152,7 @@ fn if_at(
 }
 
 // A call: the arguments that there are, then the body.
-#[cycle(argument_call_call_at_field_at_field_if_at_field_side_fold_at_fold_by_if_at_more_at_mux_at_nbr_at_number_at_number_side_operand_operator_at_other_at_rep_at_sense_at)]
+#[cycle(evaluator)]
 fn call_at(
     t: &[u64; NODES],
     u: &[u16; NODES],
@@ -189,7 +189,7 @@ fn call_at(
 }
 
 // The third argument of a call, the fourth where there is one, then the body; a and b are the first two.
-#[cycle(argument_call_call_at_field_at_field_if_at_field_side_fold_at_fold_by_if_at_more_at_mux_at_nbr_at_number_at_number_side_operand_operator_at_other_at_rep_at_sense_at)]
+#[cycle(evaluator)]
 fn more_at(
     t: &[u64; NODES],
     u: &[u16; NODES],
@@ -225,7 +225,7 @@ fn more_at(
 }
 
 // An argument of a call, 0 where the definition has fewer.
-#[cycle(argument_call_call_at_field_at_field_if_at_field_side_fold_at_fold_by_if_at_more_at_mux_at_nbr_at_number_at_number_side_operand_operator_at_other_at_rep_at_sense_at)]
+#[cycle(evaluator)]
 fn argument(
     t: &[u64; NODES],
     u: &[u16; NODES],
@@ -245,7 +245,7 @@ fn argument(
 }
 
 // A definition's body, below the node n that calls it.
-#[cycle(argument_call_call_at_field_at_field_if_at_field_side_fold_at_fold_by_if_at_more_at_mux_at_nbr_at_number_at_number_side_operand_operator_at_other_at_rep_at_sense_at)]
+#[cycle(evaluator)]
 fn call(
     t: &[u64; NODES],
     u: &[u16; NODES],
@@ -266,7 +266,7 @@ fn call(
 }
 
 // The other forms that give a number: those that are no leaf and that three does not divide.
-#[cycle(argument_call_call_at_field_at_field_if_at_field_side_fold_at_fold_by_if_at_more_at_mux_at_nbr_at_number_at_number_side_operand_operator_at_other_at_rep_at_sense_at)]
+#[cycle(evaluator)]
 fn other_at(
     t: &[u64; NODES],
     u: &[u16; NODES],
@@ -289,7 +289,7 @@ fn other_at(
 }
 
 // A sense: whether the sensor that its operand names is lit.
-#[cycle(argument_call_call_at_field_at_field_if_at_field_side_fold_at_fold_by_if_at_more_at_mux_at_nbr_at_number_at_number_side_operand_operator_at_other_at_rep_at_sense_at)]
+#[cycle(evaluator)]
 fn sense_at(
     t: &[u64; NODES],
     u: &[u16; NODES],
@@ -311,7 +311,7 @@ fn sense_at(
 }
 
 // A rep: the initial part, and where its variable was there, the update.
-#[cycle(argument_call_call_at_field_at_field_if_at_field_side_fold_at_fold_by_if_at_more_at_mux_at_nbr_at_number_at_number_side_operand_operator_at_other_at_rep_at_sense_at)]
+#[cycle(evaluator)]
 fn rep_at(
     t: &[u64; NODES],
     u: &[u16; NODES],
@@ -344,7 +344,7 @@ fn rep_at(
 }
 
 // A mux: both branches are evaluated, then the condition.
-#[cycle(argument_call_call_at_field_at_field_if_at_field_side_fold_at_fold_by_if_at_more_at_mux_at_nbr_at_number_at_number_side_operand_operator_at_other_at_rep_at_sense_at)]
+#[cycle(evaluator)]
 fn mux_at(
     t: &[u64; NODES],
     u: &[u16; NODES],
@@ -377,7 +377,7 @@ fn mux_at(
 }
 
 // A fold: from its first operand, over the field of its second; by the lesser, by a definition or by an operator.
-#[cycle(argument_call_call_at_field_at_field_if_at_field_side_fold_at_fold_by_if_at_more_at_mux_at_nbr_at_number_at_number_side_operand_operator_at_other_at_rep_at_sense_at)]
+#[cycle(evaluator)]
 fn fold_at(
     t: &[u64; NODES],
     u: &[u16; NODES],
@@ -413,7 +413,7 @@ fn fold_at(
 }
 
 // A field folded by a definition, lowest device first: a turn for each device.
-#[cycle(argument_call_call_at_field_at_field_if_at_field_side_fold_at_fold_by_if_at_more_at_mux_at_nbr_at_number_at_number_side_operand_operator_at_other_at_rep_at_sense_at)]
+#[cycle(evaluator)]
 fn fold_by(
     t: &[u64; NODES],
     u: &[u16; NODES],
@@ -452,7 +452,7 @@ fn fold_by(
 }
 
 // A node that gives a field. An operator is done in place: a function of its own would take more stack a level.
-#[cycle(argument_call_call_at_field_at_field_if_at_field_side_fold_at_fold_by_if_at_more_at_mux_at_nbr_at_number_at_number_side_operand_operator_at_other_at_rep_at_sense_at)]
+#[cycle(evaluator)]
 fn field_at(
     t: &[u64; NODES],
     u: &[u16; NODES],
@@ -486,7 +486,7 @@ fn field_at(
 }
 
 // An nbr: its operand's value is sent, and the field is what was heard.
-#[cycle(argument_call_call_at_field_at_field_if_at_field_side_fold_at_fold_by_if_at_more_at_mux_at_nbr_at_number_at_number_side_operand_operator_at_other_at_rep_at_sense_at)]
+#[cycle(evaluator)]
 fn nbr_at(
     t: &[u64; NODES],
     u: &[u16; NODES],
@@ -510,7 +510,7 @@ fn nbr_at(
 }
 
 // An if that gives a field.
-#[cycle(argument_call_call_at_field_at_field_if_at_field_side_fold_at_fold_by_if_at_more_at_mux_at_nbr_at_number_at_number_side_operand_operator_at_other_at_rep_at_sense_at)]
+#[cycle(evaluator)]
 fn field_if_at(
     t: &[u64; NODES],
     u: &[u16; NODES],
@@ -542,7 +542,7 @@ fn field_if_at(
 }
 
 // A side of an operator that gives a field: a number is at each device.
-#[cycle(argument_call_call_at_field_at_field_if_at_field_side_fold_at_fold_by_if_at_more_at_mux_at_nbr_at_number_at_number_side_operand_operator_at_other_at_rep_at_sense_at)]
+#[cycle(evaluator)]
 fn field_side(
     t: &[u64; NODES],
     u: &[u16; NODES],

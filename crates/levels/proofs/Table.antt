@@ -2,13 +2,12 @@
 use mathlib.Core.Path.{◌≡◌, refl}
 use mathlib.Core.Bool.{true}
 use mathlib.Core.List.{List, ◌++◌}
-use Prim.Native.Nat.{ℕ, ◌+◌, ◌*◌, ◌<◌}
+use Prim.Native.Nat.{ℕ, ◌+◌, ◌*◌}
 use lib.Dec.{eqb}
 use lib.ListN.{get_or}
-use borrow.Author.Tests.{eqb-true}
 use Rattle.notation.specs.Words.{Word, ascii}
 use Rattle.levels.specs.Levels.{move_of, class_of, class_front, kind_front}
-use Rattle.decide.proofs.Below.{all_below, all-below}
+use Rattle.decide.proofs.Below.{all_below}
 
 abbrev pub moves : List ℕ
 moves =
@@ -31,14 +30,9 @@ moves =
     ++ ascii "_________OOOOOOOOOOO___^"
     ++ ascii "_________PPPPPPPPPPP___^"
 
-moves-right : all_below (λ c. all_below (λ k. eqb (get_or moves (c * 24 + k) 0) (move_of c k + 64)) 24) 18 ≡ true
+pub moves-right : all_below (λ c. all_below (λ k. eqb (get_or moves (c * 24 + k) 0) (move_of c k + 64)) 24) 18 ≡ true
 unfolding move_of
 moves-right = refl
-
-pub move_at : (c k : ℕ) → c < 18 → k < 24 → get_or moves (c * 24 + k) 0 ≡ move_of c k + 64
-move_at c k h j =
-    eqb-true (get_or moves (c * 24 + k) 0) (move_of c k + 64)
-    (all-below (λ k. eqb (get_or moves (c * 24 + k) 0) (move_of c k + 64)) 24 (all-below (λ c. all_below (λ k. eqb (get_or moves (c * 24 + k) 0) (move_of c k + 64)) 24) 18 moves-right c h) k j)
 
 -- the classes are the definition's own: how much of a word is shared at a level of that class
 pub front_by : (c kind k : ℕ) (w : Word) → kind ≡ 3 → class_of c ≡ k → kind_front c kind w ≡ class_front k w

@@ -58,9 +58,7 @@ perform-requires c =
     let network : List ℤ = c.args.network.now in
     let space : List ℤ = c.args.space.now in
     let network-sound : (soundness network).0 ≡ 0 = no_number c.soundness-sound.ensures c.if-sound-ne0.false in
-    let p = c in
-    let s = c in
-    tested program network s.args.list.now s.args.single space (p.before.before.prepare.ensures.ready p.if1.left) network-sound
+    tested program network c.args.list.now c.args.single space (c.prepare-p.ensures.ready c.if-p-ne0.false) network-sound
     c.count-counted.ensures c.if-counted-ne0.false c.if-space-counted.false
 
 pub returns : goal.returns
@@ -70,8 +68,6 @@ returns c =
     let space : List ℤ = c.args.space.now in
     let program-good : (check program).0 ≡ 0 = no_number c.prepare-p.ensures.verdict c.if-p-ne0.false in
     let network-sound : (soundness network).0 ≡ 0 = no_number c.soundness-sound.ensures c.if-sound-ne0.false in
-    let p = c in
-    let s = c in
-    carried program network s.args.list.now s.args.single space (p.before.before.prepare.ensures.ready p.if1.left) network-sound
+    carried program network c.args.list.now c.args.single space (c.prepare-p.ensures.ready c.if-p-ne0.false) network-sound
     c.count-counted.ensures c.if-counted-ne0.false c.if-space-counted.false
     c.perform.result c.perform.ensures.0 program-good c.perform.ensures.1

@@ -14,16 +14,8 @@ use Rattle.number.specs.Number.{mark}
 use Rattle.apply.specs.State.{state_size, sent_at, fault_at, state_of, fault_of}
 use Rattle.apply.proofs.Laws.{fault-kept}
 use Rattle.fire.proofs.Rows.{front-more}
+use Rattle.fire.proofs.begin.Invariants.{Filled}
 use Rattle.fire.proofs.begin.Goals as goal
-
--- `fire::begin` meets its contract. Assumes nothing.
--- what i turns have made of the state
-record Filled (here st : List ℤ) (i : ℕ) : Type 0 where
-  pub near : i ≤ 16
-  pub whole : length st ≡ state_size
-  pub variables : take i st ≡ take i here
-  pub silent : take i (drop sent_at st) ≡ replicate i mark
-  pub clear : fault_of st ≡ pos 0
 
 one_more : (here st : List ℤ) (i : ℕ) (v : ℤ) → i < 16 → i < length here → v ≡ get_or here i (pos 0) → Filled here st i → Filled here (set (set st i v) (sent_at + i) mark) (i + 1)
 one_more here st i v h k e f =

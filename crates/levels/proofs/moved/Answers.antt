@@ -1,6 +1,6 @@
 -- `levels::moved` meets its contract. Assumes nothing.
 use native.Mathlib.Omega.{arith}
-use Rattle.levels.proofs.Table.{move_at}
+use Rattle.levels.proofs.Moves.{move_at}
 use Rattle.levels.proofs.moved.Goals as goal
 
 pub overflow_sub-result : goal.overflow_sub-result

@@ -11,19 +11,19 @@ pub signal-requires : goal.signal-requires
 signal-requires c = (c.requires.0.whole, c.requires.1 _)
 
 pub returns-in-Fire : goal.returns-in-Fire
-returns-in-Fire c = acts-fire _ (ap meant c.e-1.is) c.fire.ensures
+returns-in-Fire c = acts-fire _ (ap meant c.in-Fire.is) c.fire.ensures
 
 pub returns-in-Deliver : goal.returns-in-Deliver
-returns-in-Deliver c = acts _ (ap meant c.e-in-Deliver-1.is) c.deliver.ensures
+returns-in-Deliver c = acts _ (ap meant c.in-Deliver.is) c.deliver.ensures
 
 pub returns-in-Lose : goal.returns-in-Lose
-returns-in-Lose c = acts _ (ap meant c.e-in-Lose-1.is) c.lose.ensures
+returns-in-Lose c = acts _ (ap meant c.in-Lose.is) c.lose.ensures
 
 pub returns-in-Link : goal.returns-in-Link
-returns-in-Link c = acts _ (ap meant c.e-in-Link-1.is) (rw (to_z-of_z {w = w32} (sfits_of c.known_told-in-Link-1.known_told-in-Link-1-own.given.1.1.0.1)) at c.link.ensures)
+returns-in-Link c = acts _ (ap meant c.in-Link.is) (rw (to_z-of_z {w = w32} (sfits_of c.in-Link.known_told-in-Link-1-own.given.1.1.0.1)) at c.link.ensures)
 
 pub returns-in-Signal : goal.returns-in-Signal
-returns-in-Signal c = acts _ (ap meant c.e-in-Signal-1.is) c.signal.ensures
+returns-in-Signal c = acts _ (ap meant c.in-Signal.is) c.signal.ensures
 
 pub returns-in-Bad : goal.returns-in-Bad
-returns-in-Bad c = acts-fire _ (ap meant c.enum_told-1.is) c.fire-in-Bad.ensures
+returns-in-Bad c = acts-fire _ (ap meant c.in-Bad.is) c.fire-in-Bad.ensures

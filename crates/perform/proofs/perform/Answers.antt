@@ -40,7 +40,7 @@ event_of-e-requires c =
 pub do_event-r-requires : goal.do_event-r-requires
 do_event-r-requires c =
     let r = c.requires.ready in
-    (record { whole = c.loop-at.inv.whole; idle = c.loop-at.inv.idle; sound = r.sound; inside = r.inside; sort = r.sort }, c.loop-at.inv.lit)
+    (record { whole = c.loop-at.invariant.whole; idle = c.loop-at.invariant.idle; sound = r.sound; inside = r.inside; sort = r.sort }, c.loop-at.invariant.lit)
 
 pub overflow_mul-code : goal.overflow_mul-code
 overflow_mul-code c =
@@ -94,7 +94,7 @@ pub loop-at-smaller : goal.loop-at-smaller
 loop-at-smaller c =
     let whole-at : field_at c.args.list.now c.loop-at.at ≡ Whole c.in-Whole.tag c.in-Whole.start c.in-Whole.len c.in-Whole.next = sym c.read_field-f.ensures ∙ c.in-Whole.is in
     let place : Placed c.args.list.now c.loop-at.at c.in-Whole.start c.in-Whole.len c.in-Whole.next = placed _ _ whole-at in
-    let p = place in omega (arith, c.loop-at-test.taken)
+    let p = place in omega (arith, c.loop-at-test.true)
 
 pub loop-at-preserved : goal.loop-at-preserved
 loop-at-preserved c =
@@ -102,7 +102,7 @@ loop-at-preserved c =
     let d = c.do_event-r in
     let e = c.event_of-e in
     rw (to_z-of_z {z = d.result.code} (sfits_of c.struct_told-1.given.0.1), to_z-of_z {z = d.result.value} (sfits_of c.struct_told-in-loop-at-1.given.1.0.1))
-    (next-turn c.loop-at.inv whole-at e.result d.result _ c.net-1.given e.ensures d.ensures)
+    (next-turn c.loop-at.invariant whole-at e.result d.result _ c.net-1.given e.ensures d.ensures)
 
 pub shape_of-net : goal.shape_of-net
 shape_of-net c = c.loop-at.invariant.whole ∙ sym c.requires.ready.whole

@@ -2,7 +2,8 @@
 use mathlib.Core.Path.{refl, sym, ◌∙◌}
 use Prim.Native.Nat.{◌-◌}
 use native.Mathlib.Omega.{arith}
-use Rattle.vocabulary.proofs.Table.{entry, sought-found, sought-again, sought-none}
+use Rattle.vocabulary.proofs.Table.{entry}
+use Rattle.vocabulary.proofs.Search.{sought-found, sought-again, sought-none}
 use Rattle.vocabulary.proofs.seek.Goals as goal
 
 pub loop-k-init : goal.loop-k-init

@@ -1,7 +1,7 @@
 -- `vocabulary::seek` keeps this in its loops.
 use Prim.Native.Nat.{◌-◌}
 use Rattle.notation.specs.Words.{between}
-use Rattle.vocabulary.proofs.Table.{Sought}
+use Rattle.vocabulary.proofs.Search.{Sought}
 use Rattle.vocabulary.proofs.seek.Given as goal
 
 abbrev pub invariant-loop-k : goal.invariant-loop-k
