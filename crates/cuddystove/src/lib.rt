@@ -11,32 +11,28 @@ ghost use Rattle.calls.specs.Carried.{result_of};
 ghost use Rattle.both.specs.Both.{Both, first, second};
 
 // Checks a program table: 0 and 0, or the refusal and its place.
-#[unsafe(no_mangle)]
-pub extern "C" fn cuddystove_check(program: &[u8]) -> verdict::Verdict
+pub fn cuddystove_check(program: &[u8]) -> verdict::Verdict
     ensures { pair result ≡ check program.now }
 {
     program_check::check(program)
 }
 
 // Reads a program's text; its table starts the slice: 0 and its length, or the refusal and its place.
-#[unsafe(no_mangle)]
-pub extern "C" fn cuddystove_read_text(text: &[u8], table: &mut [u8]) -> verdict::Verdict
+pub fn cuddystove_read_text(text: &[u8], table: &mut [u8]) -> verdict::Verdict
     ensures { Reads text.now table.old (pair result) table.new }
 {
     texts::read_text(text, table)
 }
 
 // Makes a network fresh; 11 and 0 where its length is wrong.
-#[unsafe(no_mangle)]
-pub extern "C" fn cuddystove_fresh(network: &mut [i32]) -> verdict::Verdict
+pub fn cuddystove_fresh(network: &mut [i32]) -> verdict::Verdict
     ensures { (pair result, network.new) ≡ fresh_call network.old }
 {
     fresh::fresh(network)
 }
 
 // Does one event, that of a list of exactly one field.
-#[unsafe(no_mangle)]
-pub extern "C" fn cuddystove_event(
+pub fn cuddystove_event(
     program: &[u8],
     network: &mut [i32],
     list: &[u8],
@@ -48,8 +44,7 @@ pub extern "C" fn cuddystove_event(
 }
 
 // Does every event of a list, from first to last.
-#[unsafe(no_mangle)]
-pub extern "C" fn cuddystove_run(
+pub fn cuddystove_run(
     program: &[u8],
     network: &mut [i32],
     list: &[u8],
@@ -61,8 +56,7 @@ pub extern "C" fn cuddystove_run(
 }
 
 // Runs two orders of the same events, each on a network of its own.
-#[unsafe(no_mangle)]
-pub extern "C" fn cuddystove_run_both(
+pub fn cuddystove_run_both(
     program: &[u8],
     network1: &mut [i32],
     network2: &mut [i32],
