@@ -2,6 +2,7 @@
 use mathlib.Core.Path.{◌≡◌, ◌∙◌}
 use mathlib.Core.List.{List}
 use Prim.Native.Nat.{ℕ}
+use native.Mathlib.Omega.{arith}
 use lib.IntN.{ℤ}
 use Rattle.program.specs.Check.{check}
 use Rattle.network.specs.Network.{soundness}
@@ -36,7 +37,7 @@ returns-then-counted-ne0 c =
     let read : Read = read_by c.args.single c.args.list.now in
     let space : List ℤ = c.args.space.now in
     let program-good : (check program).0 ≡ 0 = no_number c.prepare-p.ensures.verdict c.if-p-ne0.false in
-    let network-sound : (soundness network).0 ≡ 0 = no_number c.soundness-sound.ensures c.if-sound-ne0.false in
+    let network-sound : (soundness network).0 ≡ 0 = no_number c.soundness-sound.ensures (omega arith) in
     by-list program network read space c.refused-then-counted-ne0.result program-good network-sound
     (c.refused-then-counted-ne0.ensures ∙ of-verdict read _ c.count-counted.ensures) (λ z. c.if-counted-ne0.true (no_number c.refused-then-counted-ne0.ensures z))
 
@@ -47,7 +48,7 @@ returns-then-space-counted c =
     let read : Read = read_by c.args.single c.args.list.now in
     let space : List ℤ = c.args.space.now in
     let program-good : (check program).0 ≡ 0 = no_number c.prepare-p.ensures.verdict c.if-p-ne0.false in
-    let network-sound : (soundness network).0 ≡ 0 = no_number c.soundness-sound.ensures c.if-sound-ne0.false in
+    let network-sound : (soundness network).0 ≡ 0 = no_number c.soundness-sound.ensures (omega arith) in
     let k = c.count-counted in
     by-room program network read space c.refused-then-space-counted.result program-good network-sound (no_number (of-verdict read _ k.ensures) c.if-counted-ne0.false)
     k.result.events (of-events read _ k.ensures) c.refused-then-space-counted.ensures c.if-space-counted.true
@@ -57,7 +58,7 @@ perform-requires c =
     let program : List ℕ = c.args.program.now in
     let network : List ℤ = c.args.network.now in
     let space : List ℤ = c.args.space.now in
-    let network-sound : (soundness network).0 ≡ 0 = no_number c.soundness-sound.ensures c.if-sound-ne0.false in
+    let network-sound : (soundness network).0 ≡ 0 = no_number c.soundness-sound.ensures (omega arith) in
     tested program network c.args.list.now c.args.single space (c.prepare-p.ensures.ready c.if-p-ne0.false) network-sound
     c.count-counted.ensures c.if-counted-ne0.false c.if-space-counted.false
 
@@ -67,7 +68,7 @@ returns c =
     let network : List ℤ = c.args.network.now in
     let space : List ℤ = c.args.space.now in
     let program-good : (check program).0 ≡ 0 = no_number c.prepare-p.ensures.verdict c.if-p-ne0.false in
-    let network-sound : (soundness network).0 ≡ 0 = no_number c.soundness-sound.ensures c.if-sound-ne0.false in
+    let network-sound : (soundness network).0 ≡ 0 = no_number c.soundness-sound.ensures (omega arith) in
     carried program network c.args.list.now c.args.single space (c.prepare-p.ensures.ready c.if-p-ne0.false) network-sound
     c.count-counted.ensures c.if-counted-ne0.false c.if-space-counted.false
     c.perform.result c.perform.ensures.0 program-good c.perform.ensures.1

@@ -3,6 +3,7 @@ use mathlib.Core.Path.{◌≡◌, sym, ◌∙◌}
 use mathlib.Core.Logic.{⊎_elim}
 use Prim.Native.Nat.{◌+◌, ◌-◌, ◌*◌, ◌≤◌}
 use native.Mathlib.Omega.{arith}
+use mir.Syntax.{w32}
 use mir.Facts.{to_z-of_z}
 use borrow.Author.Rules.{rules, sfits_of}
 use lib.ListN.{length, length-set}
@@ -101,7 +102,7 @@ loop-at-preserved c =
     let whole-at : field_at c.args.list.now c.loop-at.at ≡ Whole c.in-Whole.tag c.in-Whole.start c.in-Whole.len c.in-Whole.next = sym c.read_field-f.ensures ∙ c.in-Whole.is in
     let d = c.do_event-r in
     let e = c.event_of-e in
-    rw (to_z-of_z {z = d.result.code} (sfits_of c.struct_told-1.given.0.1), to_z-of_z {z = d.result.value} (sfits_of c.struct_told-in-loop-at-1.given.1.0.1))
+    rw (to_z-of_z {w = w32} {z = d.result.code} (search rules), to_z-of_z {w = w32} {z = d.result.value} (search rules))
     (next-turn c.loop-at.invariant whole-at e.result d.result _ c.net-1.given e.ensures d.ensures)
 
 pub shape_of-net : goal.shape_of-net
