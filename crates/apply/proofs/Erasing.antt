@@ -14,7 +14,7 @@ use Rattle.decide.proofs.Picks.{by-rest}
 use Rattle.program.specs.Table.{among}
 use Rattle.round.specs.Round.{State, stored, erased}
 use Rattle.domain.specs.Members.{members}
-use Rattle.domain.proofs.Laws.{members-none, member_below, bit-members}
+use Rattle.domain.proofs.Laws.{member_below, bit-members}
 use Rattle.apply.specs.State.{state_of, fault_of, Erases}
 use Rattle.apply.proofs.Laws.{state-stored, fault-kept}
 
@@ -65,12 +65,6 @@ abbrev pub wiped : List ℕ → List ℤ → List ℤ
 wiped [] st = st
 wiped (k ∷ ks) st = wiped ks (set st k mark)
 
-pub wiped-none : (d : ℕ) (st : List ℤ) → d ≡ 0 → wiped (members d) st ≡ st
-wiped-none d st e = rw (e, members-none)
-
-pub wiped-more : (d r k j : ℕ) (st : List ℤ) → k ≡ j → members d ≡ j ∷ members r → wiped (members r) (set st k mark) ≡ wiped (members d) st
-wiped-more d r k j st q e = rw (q, e)
-
 abbrev Low : List ℕ → Type 0
 Low ks = (k : ℕ) → among k ks ≡ true → k < 16
 
@@ -108,3 +102,6 @@ erases m st new e =
           (λ v l. let b : v < 16 = variables-few st v l in bit-members m v b ∙ h v b);
       fault = fault-wiped (members m) st (member_below m);
     }
+
+pub erased_by_walk : (m left : ℕ) (st new : List ℤ) → wiped (members left) new ≡ wiped (members m) st → members left ≡ [] → Erases m st new
+erased_by_walk m left st new e n = erases m st new (sym (ap (λ (ks : List ℕ). wiped ks new) n) ∙ e)

@@ -38,7 +38,7 @@ module _ (F : ℤ → ℤ → State → Outcome) (d : ℕ) (cells : List ℤ) (x
   unfolding along through
   fold-ends e = rw e
 
-  pub fold-turns : (r k j : ℕ) → k ≡ j → members d ≡ j ∷ members r
+  pub fold-turns : (r k : ℕ) → members d ≡ k ∷ members r
       → along F (members d) cells x s ≡ then_number (F x (get_or cells k (pos 0)) s) (λ z u. along F (members r) cells z u)
   unfolding along through
-  fold-turns r k j q e = rw (q, e)
+  fold-turns r k e = rw e

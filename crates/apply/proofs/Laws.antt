@@ -12,11 +12,14 @@ use mir.Syntax.{w32}
 use mir.Val.{SFits, of_z, to_z}
 use mir.ValLaws.{to_z-of_z}
 use mir.Facts.{sfits_lit}
-use Rattle.number.specs.Number.{Operator, operation_result, faults}
+use Rattle.number.specs.Number.{Operator, operator_of, operation_result, faults}
+use Rattle.arith.specs.Named.{named}
+use Rattle.arith.specs.declared.operator.Operator as arith
 use Rattle.field.specs.Field.{Field, pointwise, faults_in}
 use Rattle.round.specs.Round.{State, Value, number, field, Outcome, done, fault, then_value, then_number, field_of, stored, sending, operated, on_numbers, on_fields}
 use Rattle.apply.specs.State.{sent_at, fault_at, state_of, fault_of, LeftBy}
-use Rattle.arith.proofs.Signs.{same_bits}
+use Rattle.arith.proofs.Signs.{same_bits, is_zero, not_zero}
+use Rattle.domain.proofs.Fields.{faultless_operator}
 
 -- ---- a cell stored
 module _ (st : List ℤ) where
@@ -84,34 +87,29 @@ unfolding operated
 on-numbers n o x y s = refl
 
 -- ---- an operator, by whether it divides by 0
-module _ (n : ℕ) (o : Operator) {w : Value} {st : List ℤ} where
-  pub numbers-fault : (x y : ℤ) (s : State) → faults o y ≡ true → fault_of st ≡ pos (n + 1) → LeftBy (on_numbers n o x y s) w st
-  numbers-fault x y s e f = rw e record { left = f }
-
-  pub fields-fault : (f g : Field) (s : State) → faults_in o f g ≡ true → fault_of st ≡ pos (n + 1) → LeftBy (on_fields n o f g s) w st
-  fields-fault f g s e h = rw e record { left = h }
-
 module _ (n : ℕ) (o : Operator) where
   pub numbers-faulted : (x y : ℤ) (s : State) → faults o y ≡ true → on_numbers n o x y s ≡ fault n
   numbers-faulted x y s e = rw e
 
-  pub numbers-done : (x y : ℤ) (s : State) → faults o y ≡ false → on_numbers n o x y s ≡ done (number (operation_result o x y)) s
-  numbers-done x y s e = rw e
+  pub numbers_fault : (x y : ℤ) (s : State) (w : Value) (st : List ℤ) → faults o y ≡ true → fault_of st ≡ pos (n + 1) → LeftBy (on_numbers n o x y s) w st
+  numbers_fault x y s w st e f = rw e record { left = f }
 
-  pub fields-done : (f g : Field) (s : State) → faults_in o f g ≡ false → on_fields n o f g s ≡ done (field (pointwise o f g)) s
-  fields-done f g s e = rw e
+  pub numbers_give : (x y r : ℤ) (st : List ℤ) → faults o y ≡ false → r ≡ operation_result o x y → fault_of st ≡ pos 0 → LeftBy (on_numbers n o x y (state_of st)) (number r) st
+  numbers_give x y r st e q z = rw e (gave (ap number (sym q)) refl z)
 
--- numbers that were passed on
-pub numbers-read : (n : ℕ) (o : Operator) (s : State) {w : Value} {r : List ℤ} (x y : ℤ) → SFits w32 x → SFits w32 y
-    → LeftBy (on_numbers n o (to_z w32 (of_z w32 x)) (to_z w32 (of_z w32 y)) s) w r → LeftBy (on_numbers n o x y s) w r
-numbers-read n o s x y f g h = rw (to_z-of_z w32 x f, to_z-of_z w32 y g) at h
+  pub fields_fault : (f g : Field) (s : State) (w : Value) (st : List ℤ) → faults_in o f g ≡ true → fault_of st ≡ pos (n + 1) → LeftBy (on_fields n o f g s) w st
+  fields_fault f g s w st e h = rw e record { left = h }
 
--- ---- in a fold
-pub then-fault : {o : Outcome} {w : Value} {n : ℕ} {st : List ℤ} (k : Value → State → Outcome) → o ≡ fault n → fault_of st ≡ pos (n + 1) → LeftBy (then_value o k) w st
-then-fault k e f = rw e record { left = f }
+  pub fields_give : (f g h : Field) (st : List ℤ) → faults_in o f g ≡ false → h ≡ pointwise o f g → fault_of st ≡ pos 0 → LeftBy (on_fields n o f g (state_of st)) (field h) st
+  fields_give f g h st e q z = rw e (gave (ap field (sym q)) refl z)
 
-pub then-done : {o : Outcome} {x : ℤ} {s : State} (k : ℤ → State → Outcome) → o ≡ done (number x) s → then_number o k ≡ k x s
-then-done k e = rw e
+-- what `grind` is told of them
+pub ruleset outcomes = (to_z-of_z, is_zero, not_zero, faultless_operator, numbers_fault, numbers_give, fields_fault, fields_give)
+
+-- the operator that a table's number names, on numbers that were passed on
+pub numbers-named : (n : ℕ) (o : arith.Operator) (k : ℕ) (s : State) {w : Value} {r : List ℤ} (x y : ℤ) → named o ≡ operator_of k → SFits w32 x → SFits w32 y
+    → LeftBy (on_numbers n (named o) (to_z w32 (of_z w32 x)) (to_z w32 (of_z w32 y)) s) w r → LeftBy (on_numbers n (operator_of k) x y s) w r
+numbers-named n o k s x y e f g h = rw (e, to_z-of_z w32 x f, to_z-of_z w32 y g) at h
 
 -- ---- a node that stores a variable, or sends a slot
 module _ (st : List ℤ) (i : ℕ) {x z : ℤ} (h : i < 16) (e : z ≡ x) (c : fault_of st ≡ pos 0) where

@@ -1,4 +1,3 @@
 pub mod Laws
 pub mod Erasing
 pub mod Folding
-pub mod Numbers

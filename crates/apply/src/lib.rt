@@ -4,14 +4,16 @@
 #![tactic(auto)]
 
 ghost use Rattle.std.specs.Prelude.{◌≡◌, ◌+◌, ◌<◌, pos, length};
-ghost use Rattle.number.specs.Number.{div, operator_of};
-ghost use Rattle.domain.specs.Held.{field_of};
+ghost use Rattle.number.specs.Number.{div};
+ghost use Rattle.arith.specs.Named.{named};
+ghost use Rattle.domain.specs.Held.{held};
 ghost use Rattle.domain.specs.Members.{places};
 ghost use Rattle.round.specs.Round.{State, number, done, on_numbers, on_fields, folded, is_true, sensed};
 ghost use Rattle.words.specs.Word.{node_numbers};
-ghost use Rattle.words.specs.Sound.{lesser};
 ghost use Rattle.apply.specs.State.{state_of, fault_of, Gives, GivesField, Walks, Erases, lessens};
 
+use arith::Operator;
+use domain::{Domain, Held};
 use layout::{FAULT, MARK, STATE};
 
 // What a walk over a domain comes to, and how many turns its loop took.
@@ -21,125 +23,84 @@ pub struct Walk {
     pub turns: u32,
 }
 
-// Node n divided by 0. The cells go by value: of an array by value a proof knows that it has cell FAULT.
-fn faulted(st: [i32; STATE], n: u16) -> [i32; STATE]
-    requires { n < node_numbers }
-    ensures { fault_of result ≡ pos (n + 1) }
-{
-    let mut cells = st;
-    let f = n as i32 + 1;
-    cells[FAULT] = f;
-    cells
-}
-
+// Node n divided by 0. The 0 that comes back stands for no value.
 fn fault(st: &mut [i32; STATE], n: u16) -> i32
     requires { n < node_numbers }
     ensures { fault_of st.new ≡ pos (n + 1) }
 {
-    let cells = *st;
-    *st = faulted(cells, n);
+    st[FAULT] = i32::from(n) + 1;
     0
 }
 
 // Node n's division of two numbers.
+#[tactic(auto, using(crate::proofs::Laws::outcomes), unfolding(number::specs::Number::faults, number::specs::Number::operation_result))]
 fn divide(st: &mut [i32; STATE], n: u16, x: i32, y: i32) -> i32
     requires { (n < node_numbers) × (fault_of st.old ≡ pos 0) }
     ensures { Gives (on_numbers n div x y (state_of st.old)) result st.new }
 {
     if y == 0 {
-        return fault(st, n);
+        fault(st, n)
+    } else {
+        arith::div(x, y)
     }
-    arith::div(x, y)
 }
 
 // Node n's operator on two numbers. Division stands apart, so that the rest is small enough to be put in place where it is called.
-pub fn number_op(st: &mut [i32; STATE], n: u16, o: u8, x: i32, y: i32) -> i32
+#[tactic(auto, using(crate::proofs::Laws::outcomes), unfolding(number::specs::Number::faults, number::specs::Number::operation_result))]
+pub fn number_op(st: &mut [i32; STATE], n: u16, o: Operator, x: i32, y: i32) -> i32
     requires { (n < node_numbers) × (fault_of st.old ≡ pos 0) }
-    ensures { Gives (on_numbers n (operator_of o) x y (state_of st.old)) result st.new }
+    ensures { Gives (on_numbers n (named o) x y (state_of st.old)) result st.new }
 {
-    if o == arith::DIVISION {
-        return divide(st, n, x, y);
+    if o == Operator::Over {
+        divide(st, n, x, y)
+    } else {
+        o.operate(x, y)
     }
-    arith::operate(o, x, y)
 }
 
-// And on two fields, each lent as its domain and its cells.
-pub fn field_op<'a>(
-    st: &mut [i32; STATE],
-    n: u16,
-    o: u8,
-    left: domain::Domain,
-    xs: &'a [i32; 16],
-    right: domain::Domain,
-    ys: &'a [i32; 16],
-) -> domain::Held
+// And on two fields.
+pub fn field_op(st: &mut [i32; STATE], n: u16, o: Operator, left: &Held, right: &Held) -> Held
     requires { (n < node_numbers) × (fault_of st.old ≡ pos 0) }
-    ensures { GivesField (on_fields n (operator_of o) (field_of left.bits xs.now) (field_of right.bits ys.now) (state_of st.old)) result st.new }
+    ensures { GivesField (on_fields n (named o) (held left.now) (held right.now) (state_of st.old)) result st.new }
 {
-    if domain::faults_in(o, left, xs, right, ys) {
+    if left.faults_in(o, right) {
         fault(st, n);
-        return domain::no_field();
+        return Held::no_field();
     }
-    domain::shared(o, left, xs, right, ys)
+    left.shared(o, right)
 }
 
 // And folded over a field, lowest device first: a turn for each device.
-pub fn fold_op(
-    st: &mut [i32; STATE],
-    n: u16,
-    o: u8,
-    from: i32,
-    dom: domain::Domain,
-    cells: &[i32; 16],
-) -> Walk
+pub fn fold_op(st: &mut [i32; STATE], n: u16, o: Operator, from: i32, field: &Held) -> Walk
     requires { (n < node_numbers) × (fault_of st.old ≡ pos 0) }
-    ensures { Walks (λ x y s. on_numbers n (operator_of o) x y s) (field_of dom.bits cells.now) from (state_of st.old) result st.new }
+    ensures { Walks (λ x y s. on_numbers n (named o) x y s) (held field.now) from (state_of st.old) result st.new }
 {
-    let mut acc = from;
-    let mut left = dom;
-    let mut turns: u32 = 0;
-    while left.bits != 0 {
-        let k = left.lowest();
-        left = left.rest();
+    let mut value = from;
+    let mut turns = 0;
+    for k in field.dom {
         turns += 1;
-        let v = cells[k];
-        if arith::zero_divisor(o, v) {
-            let z = fault(st, n);
+        let y = field.cells[k];
+        if o.zero_divisor(y) {
             return Walk {
-                value: z,
-                turns: turns,
+                value: fault(st, n),
+                turns,
             };
         }
-        acc = arith::operate_any(o, acc, v);
+        value = o.operate_any(value, y);
     }
-    Walk {
-        value: acc,
-        turns: turns,
-    }
-}
-
-fn lesser_of(x: i32, y: i32) -> i32
-    ensures { result ≡ lesser x y }
-{
-    if x < y {
-        return x;
-    }
-    y
+    Walk { value, turns }
 }
 
 // The least of a number and a field's: what folding comes to by a definition that gives the lesser of two.
-pub fn fold_least(from: i32, dom: domain::Domain, cells: &[i32; 16]) -> Walk
-    ensures { ((s : State) → folded lessens (field_of dom.bits cells.now) from s ≡ done (number result.value) s)
-        × (result.turns ≡ length (places (field_of dom.bits cells.now))) }
+pub fn fold_least(from: i32, field: &Held) -> Walk
+    ensures { ((s : State) → folded lessens (held field.now) from s ≡ done (number result.value) s)
+        × (result.turns ≡ length (places (held field.now))) }
 {
     let mut least = from;
-    let mut more = dom;
-    let mut count: u32 = 0;
-    while more.bits != 0 {
-        let j = more.lowest();
-        more = more.rest();
+    let mut count = 0;
+    for j in field.dom {
         count += 1;
-        least = lesser_of(least, cells[j]);
+        least = least.min(field.cells[j]);
     }
     Walk {
         value: least,
@@ -147,7 +108,7 @@ pub fn fold_least(from: i32, dom: domain::Domain, cells: &[i32; 16]) -> Walk
     }
 }
 
-// Whether a condition takes the first branch.
+// Whether a condition takes the first branch: "condition 1 takes then, all else takes else". Stays (d): it says this rule in one place.
 pub fn is_true(x: i32) -> bool
     ensures { result ≡ is_true x }
 {
@@ -155,16 +116,11 @@ pub fn is_true(x: i32) -> bool
 }
 
 // Whether sensor s is lit.
+#[tactic(auto, using(arith::proofs::Signs::reads), unfolding(round::specs::Round::sensed))]
 pub fn lit_of(sensors: i32, s: i32) -> i32
     ensures { result ≡ sensed sensors s }
 {
-    if sensors < 0 {
-        return 0;
-    }
-    if s < 0 {
-        return 0;
-    }
-    if s > 15 {
+    if sensors < 0 || s < 0 || s > 15 {
         return 0;
     }
     (((sensors as u32) >> (s as u32)) % 2) as i32
@@ -174,10 +130,8 @@ pub fn lit_of(sensors: i32, s: i32) -> i32
 pub fn erase(st: &mut [i32; STATE], mask: u16)
     ensures { Erases mask st.old st.new }
 {
-    let mut variables = domain::Domain { bits: mask };
-    while variables.bits != 0 {
-        let v = variables.lowest();
-        variables = variables.rest();
+    let variables = Domain { bits: mask };
+    for v in variables {
         st[v] = MARK;
     }
 }

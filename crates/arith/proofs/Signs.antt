@@ -1,7 +1,7 @@
 -- Signed numbers: what the machine reads back, sums, products and quotients of two 32-bit numbers fit 64 bits, and tests. Assumes nothing.
 use mathlib.Core.Path.{◌≡◌, refl, sym, ap, ap₂, ◌∙◌}
 use mathlib.Core.Bool.{Bool, true, false, cond, true≢false}
-use Prim.Native.Nat.{ℕ, zero, suc, ◌+◌, ◌-◌, ◌*◌, ◌/◌, ◌^◌, ◌≤◌, ◌<◌}
+use Prim.Native.Nat.{ℕ, zero, suc, ◌+◌, ◌*◌, ◌/◌, ◌^◌, ◌≤◌, ◌<◌}
 use native.Mathlib.Nat.{le_trans, le_of_lt, lt_of_le_of_lt, div-le_self, mul-le-mul_left, mul-le-mul_right}
 use native.Mathlib.Omega.{arith}
 use lib.Dec.{eqb, ltb, lit<}
@@ -13,10 +13,6 @@ use mir.ValLaws.{to_z-of_z}
 use mir.Facts.{sfits_widen}
 use borrow.Author.Tests.{ltb-false, eq-eqb, ne_eqb, eqb-true, eqb-false}
 use Rattle.number.specs.Number.{eq_z, inf, floor}
-
--- x as the machine reads it back after `x as i64`
-pub wide : (x : ℤ) → SFits w32 x → to_z w64 (of_z w64 (to_z w32 (of_z w32 x))) ≡ x
-wide x f = ap (λ (z : ℤ). to_z w64 (of_z w64 z)) (to_z-of_z w32 x f) ∙ to_z-of_z w64 x (sfits_widen tt f)
 
 -- ---- magnitudes
 mag-cond : (t : Bool) (x y : ℤ) (n : ℕ) → mag x ≤ n → mag y ≤ n → mag (cond t x y) ≤ n
@@ -67,10 +63,6 @@ module _ (x y : ℤ) (f : SFits w32 x) (g : SFits w32 y) where
   pub quot_fits : SFits w64 (quot_z x y)
   quot_fits = record { sfits = omega (arith, mag-quot x y, f.sfits) }
 
--- ---- tests
-pub lt-read : (w : Width) (x y : ℤ) {t : Bool} → SFits w x → SFits w y → lt_z (to_z w (of_z w x)) (to_z w (of_z w y)) ≡ t → lt_z x y ≡ t
-lt-read w x y fx fy e = rw (to_z-of_z w x fx, to_z-of_z w y fy) at e
-
 -- two numbers that were passed on
 pub both_read : (f : ℤ → ℤ → ℤ) (x y : ℤ) → SFits w32 x → SFits w32 y → f (to_z w32 (of_z w32 x)) (to_z w32 (of_z w32 y)) ≡ f x y
 both_read f x y p q = ap₂ f (to_z-of_z w32 x p) (to_z-of_z w32 y q)
@@ -97,7 +89,6 @@ eq_z-no (negsuc a) (negsuc b) f = ne_eqb a b (λ e. f (ap negsuc e))
 pub same_bits : (w : Width) (x y : ℤ) → SFits w x → SFits w y → of_z w x ≡ of_z w y → x ≡ y
 same_bits w x y f g e = sym (to_z-of_z w x f) ∙ ap (to_z w) e ∙ to_z-of_z w y g
 
--- between floor and inf, a number fits 32 bits
 -- a test `x == y` of the machine is one of the bits
 pub bits-eq : (x y : ℤ) → SFits w32 x → SFits w32 y → eqb (of_z w32 x) (of_z w32 y) ≡ eq_z x y
 bits-eq x y f g = by (eqb (of_z w32 x) (of_z w32 y)) refl
@@ -106,12 +97,38 @@ bits-eq x y f g = by (eqb (of_z w32 x) (of_z w32 y)) refl
     by true e = sym (eq_z-yes x y (same_bits w32 x y f g (eqb-true _ _ e)))
     by false e = sym (eq_z-no x y (λ q. eqb-false _ _ e (ap (of_z w32) q)))
 
+-- between floor and inf, a number fits 32 bits
 pub within : (z : ℤ) → lt_z inf z ≡ false → lt_z z floor ≡ false → SFits w32 z
 within (pos n) p q = record { sfits = omega (arith, ltb-false 2147483647 n p) }
 within (negsuc n) p q = record { sfits = omega (arith, ltb-false 2147483646 n q) }
 
--- a divisor that is not 0 has bits that are not 0
-pub bits_pos : (b : ℤ) → SFits w64 b → (b ≡ pos 0 → ⊥) → 0 < of_z w64 b
-bits_pos (pos zero) f h = absurd (h refl)
-bits_pos (pos (suc n)) f h = omega arith
-bits_pos (negsuc n) f h = omega (arith, f.sfits)
+-- ---- what `grind` is told of the machine's numbers: they are read back, wide ones too, and a test of their bits is one of them
+module _ (x y : ℤ) (f : SFits w32 x) (g : SFits w32 y) where
+  pub sum_wide : to_z w64 (of_z w64 (to_z w64 (of_z w64 x) +ℤ to_z w64 (of_z w64 y))) ≡ x +ℤ y
+  sum_wide = rw (to_z-of_z w64 x (sfits_widen tt f), to_z-of_z w64 y (sfits_widen tt g)) (to_z-of_z w64 _ (sum_fits x y f g))
+
+  pub difference_wide : to_z w64 (of_z w64 (to_z w64 (of_z w64 x) -ℤ to_z w64 (of_z w64 y))) ≡ x -ℤ y
+  difference_wide = rw (to_z-of_z w64 x (sfits_widen tt f), to_z-of_z w64 y (sfits_widen tt g)) (to_z-of_z w64 _ (difference-fits x y f g))
+
+  pub product_wide : to_z w64 (of_z w64 (to_z w64 (of_z w64 x) *ℤ to_z w64 (of_z w64 y))) ≡ x *ℤ y
+  product_wide = rw (to_z-of_z w64 x (sfits_widen tt f), to_z-of_z w64 y (sfits_widen tt g)) (to_z-of_z w64 _ (product-fits x y f g))
+
+  pub quotient_wide : to_z w64 (of_z w64 (quot_z (to_z w64 (of_z w64 x)) (to_z w64 (of_z w64 y)))) ≡ quot_z x y
+  quotient_wide = rw (to_z-of_z w64 x (sfits_widen tt f), to_z-of_z w64 y (sfits_widen tt g)) (to_z-of_z w64 _ (quot_fits x y f g))
+
+pub is_at : (n : ℕ) → n < 2 ^ 31 → (x : ℤ) → SFits w32 x → of_z w32 x ≡ n → eq_z x (pos n) ≡ true
+is_at n h x f e = eq_z-yes x (pos n) (same_bits w32 x (pos n) f (record { sfits = h }) e)
+
+pub is_inf : (x : ℤ) → SFits w32 x → of_z w32 x ≡ 2147483647 → eq_z x (pos 2147483647) ≡ true
+is_inf = is_at 2147483647 (lit< tt)
+
+pub not_inf : (x : ℤ) → (of_z w32 x ≡ 2147483647 → ⊥) → eq_z x (pos 2147483647) ≡ false
+not_inf x n = eq_z-no x (pos 2147483647) (λ e. n (ap (of_z w32) e))
+
+pub is_zero : (x : ℤ) → SFits w32 x → of_z w32 x ≡ 0 → eq_z x (pos 0) ≡ true
+is_zero = is_at 0 (lit< tt)
+
+pub not_zero : (x : ℤ) → (of_z w32 x ≡ 0 → ⊥) → eq_z x (pos 0) ≡ false
+not_zero x n = eq_z-no x (pos 0) (λ e. n (ap (of_z w32) e))
+
+pub ruleset reads = (to_z-of_z, bits-eq, is_inf, not_inf, is_zero, not_zero, sum_wide, difference_wide, product_wide, quotient_wide)

@@ -1,66 +1,57 @@
--- the tests of one word, and the turns of the pass over a text's names.
-use mathlib.Core.Path.{◌≡◌, refl, sym, ap, ◌∙◌}
-use mathlib.Core.Bool.{Bool, true, false, not, cond, ◌&&◌, ◌||◌}
-use mathlib.Core.List.{List, [], ◌∷◌, ◌++◌, reverse}
-use mathlib.Core.Option.{none, some}
-use Prim.Native.Nat.{ℕ, zero, suc, ◌+◌, ◌-◌, ◌≤◌, ◌<◌}
-use native.Mathlib.Omega.{arith}
-use lib.Dec.{eqb}
-use lib.ListN.{length, take, drop}
-use lib.Seq.{drop-length}
-use borrow.Author.Tests.{eq-eqb, ne_eqb}
-use Rattle.notation.specs.Words.{Word, between, one_of, own_name}
+-- The tests of one word, and the turns of the pass over a text's names.
+use Rattle.std.specs.Prelude.{◌≡◌, Bool, true, false, not, cond, ◌&&◌, ◌||◌, ◌⊎◌, Option, Some, None, is_some as holds_some, List}
+use Rattle.std.specs.Prelude.{[], ◌∷◌, ◌++◌, reverse, ℕ, zero, suc, ◌≤◌, eqb, take, drop}
+use Rattle.std.proofs.Common.{refl, sym, ap, ◌∙◌, inl, inr, arith}
+use borrow.Author.Tests.{ne_eqb}
+use Rattle.notation.specs.Words.{Word, between, one_of, index_of, own_name}
 use Rattle.notation.specs.Grammar.{Token}
 use Rattle.notation.proofs.Lexing.{lex}
-use Rattle.translation.specs.Names.{known}
 use Rattle.lexemes.specs.declared.Lexeme.{Lexeme}
-use Rattle.lexemes.specs.Lexeme.{next_lexeme, token_by, token_of, depth_by, depth_after}
-use Rattle.lexemes.proofs.Laws.{next-end}
+use Rattle.lexemes.specs.Lexeme.{next_lexeme, token_of, depth_by, depth_after}
+use Rattle.lexemes.proofs.Laws.{Behind, next-end}
+use Rattle.lexemes.proofs.Depth.{depth-kind, depth-most}
 use Rattle.vocabulary.specs.Codes.{code_of, token_code}
 use Rattle.vocabulary.proofs.Laws.{code-number, code-own}
-use Rattle.token_scans.specs.declared.Found.{Found}
 use Rattle.token_scans.specs.Scan.{mode_after, definitions_in, parameters_in}
+use Rattle.token_scans.specs.Sought.{named}
+use Rattle.token_scans.proofs.Cuts.{Cut, cut-first, cut-within, cut-begun, cut-top, cut-next, next-tokens, new-form, same-form, one_more}
 use Rattle.rep_around.specs.Around.{rep_around}
-use Rattle.bindings.specs.Good.{is_some, word_good, token_good, names_pass}
-use Rattle.token_scans.specs.Sought.{Among}
 use Rattle.rep_around.specs.Outward.{Outward}
-use Rattle.lexemes.proofs.Depth.{depth-kind, depth-most}
-use Rattle.token_scans.proofs.Cuts.{Cut, cut-first, cut-within, cut-less, cut-begun, cut-top, cut-next, next-tokens, new-form, same-form, one_more}
+use Rattle.bindings.specs.Good.{is_some, word_good, token_good, names_pass}
 
--- ---- one word: k is its code
+-- ---- one word
+pub named-some : (w : Word) (ws : List Word) → holds_some (named w ws) ≡ one_of w ws
+named-some w ws = go (one_of w ws)
+  where
+    go : (b : Bool) → holds_some (cond b (Some (index_of w ws)) None) ≡ b
+    go true = refl
+    go false = refl
+
+pub turned_over : (a b : Bool) → not a ≡ b → a ≡ not b
+turned_over true b e = ap not e
+turned_over false b e = ap not e
+
+pub outward-some : (w : Word) (e : List ℕ) (r : Option ℕ) → Outward w e r → is_some (rep_around w 0 0 [] [] (reverse (lex e))) ≡ holds_some r
+outward-some w e None o = rw o.same
+outward-some w e (Some i) o = rw o.same
+
+pub own_code : (w : Word) → own_name w ≡ eqb (code_of w) 19
+own_code w = code-own w
+
+-- k is its code
 module _ (w : Word) (k : ℕ) (e : k ≡ code_of w) where
-  pub known-word : (ds : List Word) → (k ≡ 19 → ⊥) → true ≡ known ds w
-  known-word ds h = rw (code-own w, ← e, ne_eqb k 19 h)
-
-  pub known_among : (ds : List Word) (f : Found) → k ≡ 19 → Among w ds f → f.yes ≡ known ds w
-  known_among ds f h a = rw (code-own w, ← e, eq-eqb k 19 h) a.yes
-
-  pub reserved-word : (ws : List Word) → (k ≡ 19 → ⊥) → false ≡ (own_name w && not (one_of w ws))
-  reserved-word ws h = rw (code-own w, ← e, ne_eqb k 19 h)
-
-  pub new-among : (ws : List Word) (f : Found) → k ≡ 19 → Among w ws f → not f.yes ≡ (own_name w && not (one_of w ws))
-  new-among ws f h a = rw (code-own w, ← e, eq-eqb k 19 h) (ap not a.yes)
+  pub own-by : own_name w ≡ eqb k 19
+  own-by = rw (code-own w, ← e)
 
   module _ (before : List Token) where
-    pub number_word : (eqb k 18 || eqb k 20) ≡ true → true ≡ word_good [] before 0 w
+    pub number-word : (k ≡ 18) ⊎ (k ≡ 20) → true ≡ word_good [] before 0 w
     unfolding word_good
-    number_word h = rw (code-number w, ← e, h)
+    number-word (inl h) = rw (code-number w, ← e, h)
+    number-word (inr h) = rw (code-number w, ← e, h)
 
-    module _ (n : (eqb k 18 || eqb k 20) ≡ false) (bytes : List ℕ) (b : lex bytes ≡ before) (f : Found) (o : Outward w bytes f) where
-      outward : is_some (rep_around w 0 0 [] [] (reverse before)) ≡ f.yes
-      outward = rw (← b, o.same) (go f.yes)
-        where
-          go : (c : Bool) → is_some (cond c (some (reverse (lex (take f.index bytes)))) none) ≡ c
-          go true = refl
-          go false = refl
-
-      pub rep_word : f.yes ≡ true → true ≡ word_good [] before 0 w
-      unfolding word_good
-      rep_word h = rw (code-number w, ← e, n, outward, h)
-
-      pub parameter-word : f.yes ≡ false → (p : Found) → Among w (parameters_in before) p → p.yes ≡ word_good [] before 0 w
-      unfolding word_good
-      parameter-word h p a = rw (code-number w, ← e, n, outward, h) a.yes
+    pub other-word : ((k ≡ 18) ⊎ (k ≡ 20) → ⊥) → word_good [] before 0 w ≡ (is_some (rep_around w 0 0 [] [] (reverse before)) || one_of w (parameters_in before))
+    unfolding word_good
+    other-word h = rw (code-number w, ← e, ne_eqb k 18 (λ q. h (inl q)), ne_eqb k 20 (λ q. h (inr q)))
 
 -- one turn of the pass, whether a form begins or goes on
 turn_by : (d m : ℕ) (earlier before earlier' before' more : List Token) (t : Token) (ts : List Token) → (d ≡ 0 → (earlier' ≡ earlier ++ before) × (before' ≡ []))
@@ -78,28 +69,19 @@ pub record Passing (s : List ℕ) (top at d m : ℕ) : Type 0 where
 pub passing-first : (s : List ℕ) → Passing s 0 0 0 0
 passing-first s = record { cut = cut-first s; same = refl }
 
-module _ (s : List ℕ) (top at d m : ℕ) (g : Passing s top at d m) where
-  ended : lex (drop at s) ≡ [] → true ≡ names_pass [] [] 0 0 (lex s)
+module _ {s : List ℕ} {top at d m : ℕ} (g : Passing s top at d m) where
+  pub passing-end : next_lexeme s at ≡ None → true ≡ names_pass [] [] 0 0 (lex s)
   unfolding names_pass
-  ended q = sym (g.same ∙ rw q)
+  passing-end q = sym (g.same ∙ rw (next-end s at g.cut.within q))
 
-  pub passing-end : length s ≤ at → true ≡ names_pass [] [] 0 0 (lex s)
-  passing-end h = let z : at ≡ length s = omega (arith, g.cut.within) in ended (rw (z, drop-length s))
-
-  module _ (r : Lexeme) (e : r ≡ next_lexeme s at) where
-    pub passing-none : r.kind ≡ 0 → true ≡ names_pass [] [] 0 0 (lex s)
-    passing-none q = ended (next-end s at g.cut.within (sym (ap (λ (l : Lexeme). l.kind) e) ∙ q))
-
-    pub passing-within : (at ≤ r.start) × (r.start ≤ r.end) × (r.end ≤ length s)
+  -- r is the next token, and the form around it begins at top'
+  module _ (r : Lexeme) (e : next_lexeme s at ≡ Some r) where
+    pub passing-within : Behind s at r
     passing-within = cut-within s top at d g.cut r e
 
-    -- the form around the token begins at top'
-    module _ (is : r.kind ≡ 0 → ⊥) (top' : ℕ) (t : top' ≡ cond (eqb d 0) r.start top) where
-      pub passing-less : at < r.end
-      passing-less = cut-less s top at d g.cut r e is top' t
-
+    module _ (top' : ℕ) (t : top' ≡ cond (eqb d 0) r.start top) where
       pub passing-begun : top' ≤ r.start
-      passing-begun = cut-begun s top at d g.cut r e is top' t
+      passing-begun = cut-begun s top at d g.cut r e top' t
 
       abbrev token : Token
       token = token_of s r
@@ -109,17 +91,17 @@ module _ (s : List ℕ) (top at d m : ℕ) (g : Passing s top at d m) where
           && names_pass (lex (take top' s)) (lex (between top' r.end s)) (depth_after d token) (mode_after m (token_code token)) (lex (drop r.end s)))
       turned =
           g.same
-          ∙ ap (λ (l : List Token). names_pass (lex (take top s)) (lex (between top at s)) d m l) (next-tokens s top at d g.cut r e is top' t)
+          ∙ ap (λ (l : List Token). names_pass (lex (take top s)) (lex (between top at s)) d m l) (next-tokens s top at d g.cut r e top' t)
           ∙ turn_by d m (lex (take top s)) (lex (between top at s)) (lex (take top' s)) (lex (between top' r.start s)) (lex (between top' r.end s)) token (lex (drop r.end s))
-          (new-form s top at d g.cut r e is top' t) (same-form s top at d g.cut r e is top' t)
-          (one_more s top at d g.cut r e is top' t top' passing-begun (cut-top s top at d g.cut r e is top' t))
+          (new-form s top at d g.cut r e top' t) (same-form s top at d g.cut r e top' t)
+          (one_more s top at d g.cut r e top' t top' passing-begun (cut-top s top at d g.cut r e top' t))
 
-      module _ (c : Bool) (f : c ≡ token_good (definitions_in (lex (take top' s))) (lex (between top' r.start s)) m (token_by r.kind (between r.start r.end s))) where
+      module _ (c : Bool) (f : c ≡ token_good (definitions_in (lex (take top' s))) (lex (between top' r.start s)) m (token_of s r)) where
         pub passing-bad : c ≡ false → false ≡ names_pass [] [] 0 0 (lex s)
         passing-bad q = sym (turned ∙ rw (← f, q))
 
-        pub passing-next : c ≡ true → (d' k m' : ℕ) → d' ≡ depth_by d r.kind → k ≡ token_code (token_by r.kind (between r.start r.end s)) → m' ≡ mode_after m k → Passing s top' r.end d' m'
+        pub passing-next : c ≡ true → (d' k m' : ℕ) → d' ≡ depth_by d r.kind → k ≡ token_code (token_of s r) → m' ≡ mode_after m k → Passing s top' r.end d' m'
         passing-next q d' k m' u v w = record {
-          cut = cut-next s top at d g.cut r e is top' t d' (rw u (depth-most d r.kind));
+          cut = cut-next s top at d g.cut r e top' t d' (rw u (depth-most d r.kind));
           same = turned ∙ rw (← f, q, u, w, v, depth-kind d r.kind (between r.start r.end s));
         }

@@ -1,5 +1,5 @@
 -- Refusal 20 as one pass over the tokens: what each word needs of the tokens before it. `proofs/Names.antt` proves that this is what translation's specs/Names says of the tree.
-use Rattle.std.specs.Prelude.{Bool, true, false, not, cond, ◌&&◌, ◌||◌, List, [], ◌∷◌, ◌++◌, reverse, ℕ, zero, suc, ◌+◌, eqb}
+use Rattle.std.specs.Prelude.{Bool, true, false, not, cond, ◌&&◌, ◌||◌, List, [], ◌∷◌, ◌++◌, reverse, ℕ, zero, suc, eqb}
 use Rattle.std.proofs.Math.Option.{Option, none, some}
 use Rattle.notation.specs.Words.{Word, one_of, own_name, is_number}
 use Rattle.notation.specs.Grammar.{Token, opening, closing, word}

@@ -1,85 +1,69 @@
 // Refusal 20: whether every name of a program's text resolves, by one pass over its tokens.
 #![tactic(auto)]
 
-ghost use Rattle.std.specs.Prelude.{◌≡◌, not, ◌&&◌, [], ◌-◌, ◌≤◌, ◌<◌, length, take};
-ghost use Rattle.notation.specs.Words.{between, one_of, own_name};
+ghost use Rattle.std.specs.Prelude.{◌≡◌, not, ◌&&◌, []};
+ghost use Rattle.notation.specs.Words.{one_of, own_name};
 ghost use Rattle.translation.specs.Names.{known};
 ghost use Rattle.notation.proofs.Lexing.{lex};
 ghost use Rattle.lexemes.specs.Lexeme.{token_by};
 ghost use Rattle.token_scans.specs.Scan.{words_in, definitions_in};
+ghost use Rattle.token_scans.specs.Sought.{number_of};
 ghost use Rattle.bindings.specs.Good.{word_good, token_good, names_pass};
 
+use lexemes::Kind;
+use token_scans::Mode;
+use vocabulary::{INF, NAME, NUMBER};
+
+// Below, `earlier` is the text before the top-level form that a word stands in, `form` that form as far as the word.
+
 // A name that is used where only its definition counts: behind an opening bracket, or folded by.
-fn known_name(s: &[u8], top: usize, a: usize, b: usize) -> bool
-    requires { (top ≤ a) × (a ≤ b) × (b ≤ length s.now) }
-    ensures { result ≡ known (definitions_in (lex (take top s.now))) (between a b s.now) }
+fn known_name(earlier: &[u8], w: &[u8]) -> bool
+    ensures { result ≡ known (definitions_in (lex earlier.now)) w.now }
 {
-    if vocabulary::code(s, a, b) != 19 {
-        return true;
-    }
-    let f = token_scans::definition_of(s, top, a, b);
-    f.yes
+    vocabulary::code(w) != NAME || token_scans::name_in(earlier, Mode::DefinitionName, w).is_some()
 }
 
-// A name that is given: it is no word of the notation, and not among the words of mode k in the part lo..hi.
-fn new_name(s: &[u8], k: u8, lo: usize, hi: usize, a: usize, b: usize) -> bool
-    requires { (lo ≤ hi) × (hi ≤ length s.now) × (a ≤ b) × (b ≤ length s.now) }
-    ensures { result ≡ (own_name (between a b s.now) && not (one_of (between a b s.now) (words_in k 0 (lex (between lo hi s.now))))) }
+// A name that is given: it is no word of the notation, and not among the words that the part has in that mode.
+fn new_name(part: &[u8], mode: Mode, w: &[u8]) -> bool
+    ensures { result ≡ (own_name w.now && not (one_of w.now (words_in (number_of mode) 0 (lex part.now)))) }
 {
-    if vocabulary::code(s, a, b) != 19 {
-        return false;
-    }
-    let f = token_scans::name_in(s, k, lo, hi, a, b);
-    !f.yes
+    vocabulary::code(w) == NAME && token_scans::name_in(part, mode, w).is_none()
 }
 
-// A word that stands alone in the form that begins at `top`: a number, or a name that is bound around it.
-fn bound_word(s: &[u8], top: usize, a: usize, b: usize) -> bool
-    requires { (top ≤ a) × (a ≤ b) × (b ≤ length s.now) }
-    ensures { result ≡ word_good [] (lex (between top a s.now)) 0 (between a b s.now) }
+// A word that stands alone: a number, or a name that is bound around it.
+fn bound_word(form: &[u8], w: &[u8]) -> bool
+    ensures { result ≡ word_good [] (lex form.now) 0 w.now }
 {
-    let k = vocabulary::code(s, a, b);
-    if k == 18 {
-        return true;
-    }
-    if k == 20 {
-        return true;
-    }
-    let f = rep_around::rep_of(s, top, a, a, b);
-    if f.yes {
-        return true;
-    }
-    let g = token_scans::parameter_of(s, top, a, a, b);
-    g.yes
-}
-
-// The word a..b in mode m, in the form that begins at `top`.
-fn word_good(s: &[u8], top: usize, m: u8, a: usize, b: usize) -> bool
-    requires { (top ≤ a) × (a ≤ b) × (b ≤ length s.now) }
-    ensures { result ≡ word_good (definitions_in (lex (take top s.now))) (lex (between top a s.now)) m (between a b s.now) }
-{
-    match m {
-        0 => bound_word(s, top, a, b),
-        1 => known_name(s, top, a, b),
-        2 => new_name(s, 2, 0, top, a, b),
-        4 => new_name(s, 4, top, a, a, b),
-        5 => vocabulary::code(s, a, b) == 19,
-        6 => known_name(s, top, a, b),
-        _ => true,
+    match vocabulary::code(w) {
+        INF | NUMBER => true,
+        _ => {
+            rep_around::rep_of(form, w).is_some()
+                || token_scans::name_in(form, Mode::Parameters, w).is_some()
+        }
     }
 }
 
-fn token_good(s: &[u8], top: usize, m: u8, kind: u8, a: usize, b: usize) -> bool
-    requires { (top ≤ a) × (a ≤ b) × (b ≤ length s.now) }
-    ensures { result ≡ token_good (definitions_in (lex (take top s.now))) (lex (between top a s.now)) m (token_by kind (between a b s.now)) }
+#[tactic(auto, using(crate::proofs::Goods::own_code), unfolding(crate::specs::Good::word_good))]
+fn word_good(earlier: &[u8], form: &[u8], mode: Mode, w: &[u8]) -> bool
+    ensures { result ≡ word_good (definitions_in (lex earlier.now)) (lex form.now) (number_of mode) w.now }
 {
-    if kind == 1 {
-        return true;
+    match mode {
+        Mode::Elsewhere => bound_word(form, w),
+        Mode::Head | Mode::FoldFunction => known_name(earlier, w),
+        Mode::DefinitionName => new_name(earlier, mode, w),
+        Mode::Parameters => new_name(form, mode, w),
+        Mode::BoundName => vocabulary::code(w) == NAME,
+        Mode::BeforeParameters => true,
     }
-    if kind == 2 {
-        return true;
+}
+
+fn token_good(earlier: &[u8], form: &[u8], mode: Mode, kind: Kind, w: &[u8]) -> bool
+    ensures { result ≡ token_good (definitions_in (lex earlier.now)) (lex form.now) (number_of mode) (token_by kind w.now) }
+{
+    match kind {
+        Kind::Opening | Kind::Closing => true,
+        Kind::Word => word_good(earlier, form, mode, w),
     }
-    word_good(s, top, m, a, b)
 }
 
 // Whether the names of a text resolve: refusal 20 is for a text of the grammar where they do not.
@@ -88,23 +72,17 @@ pub fn names_good(s: &[u8]) -> bool
 {
     let mut top: usize = 0;
     let mut at: usize = 0;
-    let mut d: usize = 0;
-    let mut m: u8 = 0;
-    while at < s.len() {
-        let l = lexemes::next(s, at);
-        let kind = l.kind;
-        let start = l.start;
-        let end = l.end;
-        if kind == 0 {
-            return true;
-        }
-        top = token_scans::form_start(d, top, start);
-        if !token_good(s, top, m, kind, start, end) {
+    let mut depth: usize = 0;
+    let mut mode = Mode::Elsewhere;
+    while let Some(l) = lexemes::next(s, at) {
+        let w = &s[l.start..l.end];
+        top = token_scans::form_start(depth, top, l.start);
+        if !token_good(&s[..top], &s[top..l.start], mode, l.kind, w) {
             return false;
         }
-        d = lexemes::depth_after(d, kind);
-        m = token_scans::mode_after(m, vocabulary::token_code(s, kind, start, end));
-        at = end;
+        depth = lexemes::depth_after(depth, l.kind);
+        mode = mode.after(vocabulary::token_code(l.kind, w));
+        at = l.end;
     }
     true
 }

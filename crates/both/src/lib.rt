@@ -3,6 +3,8 @@
 
 ghost use Rattle.both.specs.Both.{Both, first, second};
 
+use verdict::Verdict;
+
 // What the two runs returned.
 #[repr(C)]
 #[derive(Drop)]
@@ -26,12 +28,12 @@ pub fn run_both(
     ensures { Both program.now network1.old network2.old list1.now list2.now space1.old space2.old
         (first result network1.new space1.new) (second result network2.new space2.new) }
 {
-    let v = calls::run(program, network1, list1, space1);
-    let w = calls::run(program, network2, list2, space2);
+    let first = Verdict::from(calls::run(program, network1, list1, space1));
+    let second = Verdict::from(calls::run(program, network2, list2, space2));
     Verdicts {
-        number1: v.number,
-        place1: v.place,
-        number2: w.number,
-        place2: w.place,
+        number1: first.number,
+        place1: first.place,
+        number2: second.number,
+        place2: second.place,
     }
 }

@@ -2,48 +2,47 @@
 #![tactic(auto)]
 
 ghost use Rattle.std.specs.Prelude.{◌≡◌};
+ghost use Rattle.event.specs.Event.{Read};
 ghost use Rattle.event.specs.Calls.{carried_out, one_event, run as run_of};
-ghost use Rattle.lists.specs.Listed.{count_of};
-ghost use Rattle.calls.specs.Carried.{result_of, read_by};
+ghost use Rattle.calls.specs.Carried.{left_by, Counts};
 
-// Counts a list of any number of events, or of exactly one.
-fn count(list: &[u8], single: bool) -> lists::Counted
-    ensures { result ≡ count_of (read_by single list.now) }
-{
-    if single {
-        return lists::one_event(list);
-    }
-    lists::count_events(list)
-}
+use fire::Program;
+use verdict::{Reason, Refusal};
 
-// The two calls differ only in how their list is read.
-fn carry_out(
+// The tests and the events of a list; `count` says how many events it has, or refuses it.
+fn carry_out<C: FnOnce() -> Result<usize, Refusal> + Drop>(
     program: &[u8],
     network: &mut [i32],
     list: &[u8],
-    single: bool,
+    count: C,
     space: &mut [i32],
-) -> verdict::Verdict
-    ensures { result_of result network.new space.new ≡ carried_out program.now network.old (read_by single list.now) space.old }
+) -> Result<(), Refusal>
+    requires callable { C.pre count }
+    requires counts { (read : Read) × Counts (C.post count) list.now read }
+    ensures { (read : Read) → Counts (C.post count) list.now read
+        → left_by result network.new space.new ≡ carried_out program.now network.old read space.old }
 {
-    let mut ws = [0; layout::NODES];
-    let mut us = [0; layout::NODES];
-    let p = program_check::prepare(program, &mut ws, &mut us);
-    if p.number != 0 {
-        return verdict::refused(p.number, p.place);
+    let mut words = [0; layout::NODES];
+    let mut masks = [0; layout::NODES];
+    let main = program_check::prepare(program, &mut words, &mut masks)?;
+    scan::soundness(network)?;
+    let events = count()?;
+    if space.len() / layout::ANSWER < events {
+        return Err(Refusal {
+            reason: Reason::ShortSpace,
+            place: 0,
+        });
     }
-    let sound = scan::soundness(&*network);
-    if sound.number != 0 {
-        return sound;
-    }
-    let counted = count(list, single);
-    if counted.number != 0 {
-        return verdict::refused(counted.number, counted.place);
-    }
-    if space.len() / layout::ANSWER < counted.events {
-        return verdict::refused(13, 0);
-    }
-    perform::perform(&ws, &us, p.main, network, list, space)
+    let prepared = Program {
+        words: &words,
+        masks: &masks,
+        main,
+    };
+    let Some(cells) = network.as_mut_array() else {
+        unreachable!() // a sound network is whole
+    };
+    perform::perform(&prepared, cells, list, space);
+    Ok(())
 }
 
 // Does the one event of a list of exactly one field.
@@ -52,15 +51,20 @@ pub fn event(
     network: &mut [i32],
     list: &[u8],
     space: &mut [i32],
-) -> verdict::Verdict
-    ensures { result_of result network.new space.new ≡ one_event program.now network.old list.now space.old }
+) -> Result<(), Refusal>
+    ensures { left_by result network.new space.new ≡ one_event program.now network.old list.now space.old }
 {
-    carry_out(program, network, list, true, space)
+    carry_out(program, network, list, || lists::one_event(list), space)
 }
 
 // Does every event of a list, in order.
-pub fn run(program: &[u8], network: &mut [i32], list: &[u8], space: &mut [i32]) -> verdict::Verdict
-    ensures { result_of result network.new space.new ≡ run_of program.now network.old list.now space.old }
+pub fn run(
+    program: &[u8],
+    network: &mut [i32],
+    list: &[u8],
+    space: &mut [i32],
+) -> Result<(), Refusal>
+    ensures { left_by result network.new space.new ≡ run_of program.now network.old list.now space.old }
 {
-    carry_out(program, network, list, false, space)
+    carry_out(program, network, list, || lists::count_events(list), space)
 }

@@ -1,16 +1,15 @@
--- The soundness test by device, row and slot, all counted from 0. Definitions only: nothing is assumed.
-use Rattle.std.specs.Prelude.{Bool, not, cond, ◌&&◌, ◌||◌, List, ℕ, suc, ◌+◌, ◌*◌, get_or, eqb, ℤ, pos}
+-- The soundness test of a device's cells by row and slot, all counted from 0. Definitions only: nothing is assumed.
+use Rattle.std.specs.Prelude.{Bool, not, cond, ◌&&◌, ◌||◌, List, ℕ, suc, get_or, eqb, ℤ, pos}
 use Rattle.number.specs.Number.{mark, eq_z}
-use Rattle.network.specs.Cells.{row}
-use Rattle.network.specs.Network.{block_size, is_age, cell_sound}
+use Rattle.network.specs.Network.{is_age, cell_sound}
 
 -- the rows of a block: heard, pending, and that of the ages
 abbrev pub row_count : ℕ
 row_count = 33
 
--- whether cell j of the device after a others is sound
+-- whether cell j of the device after a others is sound, where its cells are b
 unfoldable pub sound_at : List ℤ → ℕ → ℕ → Bool
-sound_at n a j = cell_sound (suc a) (row n (a * block_size) block_size) j (get_or n (a * block_size + j) (pos 0))
+sound_at b a j = cell_sound (suc a) b j (get_or b j (pos 0))
 
 -- the network's pending_sound, by the first cell of the row
 unfoldable pub pending_from : ℕ → ℤ → ℕ → ℕ → ℤ → Bool

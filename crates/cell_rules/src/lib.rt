@@ -1,108 +1,91 @@
-// Which cells of a network are sound, one at a time. Devices, rows and slots are counted from 0 here.
+// Which cells of a device are sound, one at a time. Devices, rows and slots are counted from 0 here.
 #![tactic(auto)]
 
-ghost use Rattle.std.specs.Prelude.{◌≡◌, suc, ◌+◌, ◌*◌, ◌≤◌, ◌<◌, length, eqb};
-ghost use Rattle.number.specs.Number.{mark, eq_z};
+ghost use Rattle.std.specs.Prelude.{◌≡◌, ℕ, suc, ◌+◌, ◌*◌, ◌<◌};
 ghost use Rattle.network.specs.Cells.{row};
-ghost use Rattle.network.specs.Network.{sensors_at, heard_at, network_size, heard_sound, any_present};
+ghost use Rattle.network.specs.Network.{sensors_at, heard_at, heard_sound, any_present};
 ghost use Rattle.cell_rules.specs.Sound.{row_count, sound_at, pending_from, age_from};
 
-pub fn sensors_sound(net: &[i32], device: usize) -> bool
-    requires { (length net.now ≡ network_size) × (device < 16) }
-    ensures { result ≡ sound_at net.now device sensors_at }
+// All sensors lit.
+const ALL_LIT: i32 = 65535;
+
+// Row r of a device's cells: 0 to 15 are heard from each sender, 16 to 31 are pending to each device, row 32 has the ages.
+#[tactic(auto, using(crate::proofs::Cell::row_in_chunks))]
+pub fn row_of(block: &[i32; layout::BLOCK], r: usize) -> &[i32; layout::ROW]
+    requires { r < row_count }
+    ensures { result.now ≡ row block.now (heard_at 1 + r * 16) 16 }
 {
-    cells::in_range(net[device * layout::BLOCK + layout::SENSORS], 65535)
+    let (rows, _) = block[layout::HEARD..].as_chunks::<{ layout::ROW }>();
+    &rows[r]
+}
+
+#[tactic(auto, unfolding(crate::specs::Sound::sound_at, network::specs::Network::cell_sound))]
+pub fn sensors_sound(block: &[i32; layout::BLOCK]) -> bool
+    ensures { (a : ℕ) → result ≡ sound_at block.now a sensors_at }
+{
+    cells::in_range(block[layout::SENSORS], ALL_LIT)
 }
 
 // Cell `slot` of the row heard from `sender`.
+#[tactic(auto, unfolding(network::specs::Network::heard_sound))]
 fn heard_sound(device: usize, sender: usize, slot: usize, x: i32) -> bool
     ensures { result ≡ heard_sound (suc device) (suc sender) slot x }
 {
     if sender == device {
-        return cells::same(x, layout::MARK);
+        x == layout::MARK
+    } else {
+        slot != 0 || cells::distance_sound(x)
     }
-    if slot == 0 {
-        return cells::distance_sound(x);
-    }
-    true
 }
 
 // Cell `slot` of the row pending to `to`, whose first cell is `first`.
+#[tactic(auto, unfolding(crate::specs::Sound::pending_from))]
 fn pending_sound(device: usize, to: usize, slot: usize, first: i32, x: i32) -> bool
     ensures { result ≡ pending_from (suc device) first (suc to) slot x }
 {
     if slot == 0 {
-        if cells::same(x, 0) {
-            return true;
-        }
-        if to == device {
-            return false;
-        }
-        return cells::same(x, 1);
+        x == 0 || (to != device && x == 1)
+    } else {
+        x == layout::MARK || (to != device && first != 0)
     }
-    if cells::same(x, layout::MARK) {
-        return true;
-    }
-    if to == device {
-        return false;
-    }
-    !cells::same(first, 0)
 }
 
-// 0 where x is absent, else 1: a number, so that many are joined by `|` with no branch.
-fn presence(x: i32) -> u32
-    ensures { eqb result 0 ≡ eq_z x mark }
+// Whether one of the slots holds a number. It leaves at no slot, so that it is compiled to vectors.
+#[tactic(auto, using(crate::proofs::Present::present_step), unfolding(network::specs::Network::any_present))]
+pub fn any_present(slots: &[i32]) -> bool
+    ensures { result ≡ any_present slots.now }
 {
-    if cells::same(x, layout::MARK) {
-        return 0;
+    let mut any = false;
+    for x in slots {
+        any |= *x != layout::MARK;
     }
-    1
-}
-
-// Whether one of the fifteen slots from `at` on holds a number. It leaves at no cell, so that it is compiled to vectors.
-pub fn any_present(net: &[i32], at: usize) -> bool
-    requires { at + 15 ≤ length net.now }
-    ensures { result ≡ any_present (row net.now at 15) }
-{
-    let mut any: u32 = 0;
-    let mut i: usize = 0;
-    while i < layout::SLOTS {
-        any = any | presence(net[at + i]);
-        i += 1;
-    }
-    any != 0
+    any
 }
 
 // The age of what was heard from `sender`, where `heard` says whether a slot of it is.
+#[tactic(auto, unfolding(crate::specs::Sound::age_from))]
 fn age_sound(device: usize, sender: usize, heard: bool, x: i32) -> bool
     ensures { result ≡ age_from (suc device) heard (suc sender) x }
 {
-    if cells::same(x, layout::MARK) {
-        return !heard;
+    if x == layout::MARK {
+        !heard
+    } else {
+        sender != device && cells::in_range(x, layout::OLDEST)
     }
-    if sender == device {
-        return false;
-    }
-    cells::in_range(x, layout::OLDEST)
 }
 
-// Cell `slot` of a row: rows 0 to 15 are heard from each sender, 16 to 31 are pending to each device, row 32 has the ages, in the order of the cells.
-pub fn cell_sound(net: &[i32], device: usize, row: usize, slot: usize) -> bool
-    requires { (length net.now ≡ network_size) × (device < 16) × (row < row_count) × (slot < 16) }
-    ensures { result ≡ sound_at net.now device (heard_at 1 + row * 16 + slot) }
+#[tactic(auto, using(crate::proofs::Cell::age_cell))]
+pub fn cell_sound(block: &[i32; layout::BLOCK], device: usize, r: usize, slot: usize) -> bool
+    requires { (r < row_count) × (slot < 16) }
+    ensures { result ≡ sound_at block.now device (heard_at 1 + r * 16 + slot) }
 {
-    let at = device * layout::BLOCK + layout::HEARD + row * layout::ROW;
-    let first = net[at];
-    let x = net[at + slot];
-    if row < layout::DEVICES {
-        return heard_sound(device, row, slot, x);
+    let row = row_of(block, r);
+    let x = row[slot];
+    if r < layout::DEVICES {
+        heard_sound(device, r, slot, x)
+    } else if r < 2 * layout::DEVICES {
+        pending_sound(device, r - layout::DEVICES, slot, row[0], x)
+    } else {
+        age_sound(device, slot, any_present(&row_of(block, slot)[1..]), x)
     }
-    if row < 2 * layout::DEVICES {
-        return pending_sound(device, row - layout::DEVICES, slot, first, x);
-    }
-    let heard = any_present(
-        net,
-        device * layout::BLOCK + layout::HEARD + slot * layout::ROW + 1,
-    );
-    age_sound(device, slot, heard, x)
 }

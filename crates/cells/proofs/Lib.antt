@@ -1,3 +1,3 @@
-mod Tests
-mod Stores
+pub mod Chunks
+pub mod Stores
 pub mod Rows

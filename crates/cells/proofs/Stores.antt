@@ -1,23 +1,19 @@
--- A loop that fills cells, and one that copies them. Assumes nothing.
-use mathlib.Core.Path.{◌≡◌, sym, ap, ◌∙◌}
-use mathlib.Core.List.{List}
-use Prim.Native.Nat.{ℕ, ◌+◌, ◌<◌, ◌≤◌}
-use native.Mathlib.Omega.{arith}
-use lib.ListN.{length, get_or, set, replicate, take, drop, length-take, length-drop, length-replicate, replicate-append-replicate}
-use lib.Seq.{get_or-take, get_or-drop, take-take}
-use Rattle.network.specs.Cells.{row, store}
-use Rattle.network.proofs.Stores.{set_on, store-more}
+-- What a write to a part of a slice leaves, as the definitions have it. Assumes nothing.
+use Rattle.std.proofs.Common.{◌≡◌, refl, ap, ℕ, zero, suc, ◌+◌, ◌≤◌, List, [], ◌∷◌, ◌++◌, length, drop, arith}
+use borrow.Rule.Slice.PartMut.{put_mid}
+use Rattle.network.specs.Cells.{store}
 
 module _ {A : Type 0} where
-  pub fill_more : (l net : List A) (at i : ℕ) (v : A) → net ≡ store l at (replicate i v) → set net (at + i) v ≡ store l at (replicate (i + 1) v)
-  fill_more l net at i v e =
-      set_on l net at (at + i) (replicate i v) v e (omega (arith, length-replicate i v)) ∙ ap (store l at) (replicate-append-replicate i 1 v)
+  at_front : (l ys : List A) (k : ℕ) → length ys ≡ k → k ≤ length l → ys ++ drop k l ≡ store l zero ys
+  at_front [] [] zero e h = refl
+  at_front (x ∷ l) [] zero e h = refl
+  at_front l [] (suc k) e h = absurd (omega arith)
+  at_front l (y ∷ ys) zero e h = absurd (omega arith)
+  at_front [] (y ∷ ys) (suc k) e h = absurd (omega arith)
+  at_front (x ∷ l) (y ∷ ys) (suc k) e h = ap (y ∷◌) (at_front l ys k (omega arith) (omega arith))
 
-  -- a turn that copies, and the end
-  pub copy_more : (l net from : List A) (at start i n : ℕ) (d v : A) → i < n → start + n ≤ length from → v ≡ get_or from (start + i) d → net ≡ store l at (take i (row from start n))
-      → set net (at + i) v ≡ store l at (take (i + 1) (row from start n))
-  copy_more l net from at start i n d v h k q e =
-      store-more l net at i (row from start n) d v (simp (length-take, length-drop) (omega arith)) (q ∙ sym (get_or-take n (drop start from) i d h ∙ get_or-drop start from i d)) e
-
-  pub copy_done : (l net from : List A) (at start i n : ℕ) → i ≡ n → net ≡ store l at (take i (row from start n)) → net ≡ store l at (row from start n)
-  copy_done l net from at start i n q e = e ∙ rw (q, take-take n n (drop start from) (omega arith))
+  -- the k elements from `at` on became ys
+  pub overwritten : (at k : ℕ) (l ys : List A) → length ys ≡ k → at + k ≤ length l → put_mid at k l ys ≡ store l at ys
+  overwritten zero k l ys e h = at_front l ys k e (omega arith)
+  overwritten (suc at) k [] ys e h = absurd (omega arith)
+  overwritten (suc at) k (x ∷ l) ys e h = ap (x ∷◌) (overwritten at k l ys e (omega arith))

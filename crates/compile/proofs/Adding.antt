@@ -2,33 +2,39 @@
 use mathlib.Core.Path.{◌≡◌, refl, sym, ap, subst, ◌∙◌}
 use mathlib.Core.Bool.{Bool, true, false, cond, ◌&&◌}
 use mathlib.Core.List.{List, [], ◌∷◌, ◌++◌, reverse, reverse-reverse}
-use mathlib.Core.Option.{Option, none, some}
-use Prim.Native.Nat.{ℕ, ◌+◌, ◌-◌}
+use mathlib.Core.Option.{Option, some}
+use Rattle.std.specs.Prelude.{Some, None}
+use Prim.Native.Nat.{ℕ, ◌+◌, ◌-◌, ◌≤◌}
 use native.Mathlib.Omega.{arith}
 use lib.Dec.{eqb}
-use lib.ListN.{length, take, set, length-set}
-use borrow.Author.Tests.{ne_eqb}
+use lib.ListN.{length, take, drop, length-set}
+use lib.Seq.{take-take}
+use borrow.Author.Tests.{ne_eqb, eqb-true, eqb-false}
+use denote.Enum.Bare.{sameb}
+use Rattle.token_scans.specs.contracts.Mode.{the_type}
+use Rattle.token_scans.specs.declared.Mode.{Mode}
+use Rattle.token_scans.specs.Sought.{number_of}
+use Rattle.token_scans.proofs.Modes.{modes-same}
 use Rattle.program.specs.Table.{Node}
 use Rattle.program.specs.Conditions.{Part, node, field_bytes}
 use Rattle.notation.specs.Words.{Word, between, is_number, bits_of, index_of, operators, operator, Head, plain, slotted, operation, rep, fold, define as aDefine, call, nothing, head_of}
-use Rattle.notation.specs.Grammar.{Token, closing, nil, bare}
+use Rattle.notation.specs.Grammar.{Token, opening, closing, word, nil, bare}
 use Rattle.notation.proofs.Lexing.{lex}
-use Rattle.lexemes.specs.Lexeme.{token_by, Parted}
+use Rattle.notation.proofs.Between.{length-between}
+use Rattle.lexemes.specs.Lexeme.{Parted}
 use Rattle.vocabulary.specs.Codes.{code_of, head_by_code}
 use Rattle.vocabulary.proofs.Laws.{code-head}
 use Rattle.translation.specs.Numbering.{byte, Given, Meaning, parameter, variable, of_kind, meant_by, form_part}
 use Rattle.token_scans.specs.Scan.{reps_in, definitions_in, parameters_in}
 use Rattle.rep_around.specs.Meaning.{meaning_at}
 use Rattle.token_scans.proofs.Cuts.{lex-part}
-use Rattle.table_writer.specs.Grown.{Grown}
 use Rattle.tabling.specs.Fields.{flat_bytes}
 use Rattle.tabling.specs.Emit.{Output, Around, word_part, around, leads, given_in, close_form, is_definition, emitted, with_node, with_definition}
 use Rattle.forms.specs.declared.Form.{Form}
 use Rattle.forms.specs.Closes.{Closes}
-use Rattle.parts.specs.declared.Form as placed
 use Rattle.parts.specs.Bytes.{word_bytes, form_bytes}
-use Rattle.compile.specs.declared.Made.{Made}
-use Rattle.compile.specs.Writes.{last_of, Able, Adds}
+use Rattle.compile.specs.declared.Waiting.{Waiting}
+use Rattle.compile.specs.Writes.{last_of, pushed, Able, Adds}
 use Rattle.compile.proofs.Writing.{node-written, definition-written}
 
 -- ---- words and forms give nodes
@@ -59,94 +65,91 @@ form-node ds g h w ns aDefine = record { of = _; is = refl }
 form-node ds g h w ns call = record { of = _; is = refl }
 form-node ds g h w ns nothing = record { of = _; is = refl }
 
--- ---- what was pushed
-pub record Pushed (stack stack' : List ℕ) (from len : ℕ) (o o' : Made) : Type 0 where
-  pub stacked : stack' ≡ set stack from (byte o.nodes)
-  pub written : o'.len ≡ len
-  pub waiting : o'.sp ≡ from + 1
-  pub nodes : o'.nodes ≡ o.nodes + 1
-  pub defs : o'.defs ≡ o.defs
-
-module _ (out stack out' stack' : List ℕ) (o o' : Made) (a : Able out stack o) (len k : ℕ) (part : List ℕ → Part) (n : (ns : List ℕ) → ANode (part ns))
-    (g : Grown out o.len out' len (flat_bytes (part (between (o.sp - k) o.sp stack)))) (p : Pushed stack stack' (o.sp - k) len o o') where
-  adds-node : Adds out stack o out' stack' o' (with_node k part)
+-- ---- a node
+module _ (t t' : List ℕ) (o : Waiting) (a : Able t o) (k : ℕ) (part : List ℕ → Part) (n : (ns : List ℕ) → ANode (part ns))
+    (g : t' ≡ t ++ flat_bytes (part (between (o.len - k) o.len o.numbers))) where
+  adds-node : Adds t o t' (pushed o (o.len - k)) (with_node k part)
   adds-node = record {
-    room = g.room ∙ a.room;
-    long = ap length p.stacked ∙ length-set stack (o.sp - k) (byte o.nodes) ∙ a.long;
-    writes = λ q w. node-written out stack out' stack' o o' q k part (λ ns. (n ns).of) (λ ns. (n ns).is) w (let x = a.waiting in let y = a.long in omega (arith, x, y))
-        (subst (λ (m : ℕ). Grown out o.len out' m (flat_bytes (part (between (o.sp - k) o.sp stack)))) (sym p.written) g) p.stacked p.waiting p.nodes p.defs;
+    long = length-set o.numbers (o.len - k) (byte o.nodes) ∙ a.long;
+    writes = λ q w. node-written t t' o q k part (λ ns. (n ns).of) (λ ns. (n ns).is) w (let x = a.waiting in let y = a.long in omega (arith, x, y)) g;
   }
 
 -- ---- a word
-pub word-adds : (s : List ℕ) (top x y : ℕ) (out stack out' stack' : List ℕ) (o o' : Made) (len : ℕ) → Able out stack o → Grown out o.len out' len (word_bytes s top x y)
-    → Pushed stack stack' o.sp len o o' → Adds out stack o out' stack' o' (with_node 0 (λ ns. word_part (lex (take top s)) (lex (between top x s)) (between x y s)))
-word-adds s top x y out stack out' stack' o o' len a g p =
-    adds-node out stack out' stack' o o' a len 0 (λ ns. word_part (lex (take top s)) (lex (between top x s)) (between x y s))
-    (λ ns. word-node (lex (take top s)) (lex (between top x s)) (between x y s)) g
-    (subst (λ (k : ℕ). Pushed stack stack' k len o o') (let z : o.sp ≡ o.sp - 0 = omega arith in z) p)
+pub word-adds : (s : List ℕ) (top x y : ℕ) (t t' : List ℕ) (o : Waiting) → Able t o → t' ≡ t ++ word_bytes (take top s) (between top x s) (between x y s)
+    → Adds t o t' (pushed o o.len) (with_node 0 (λ ns. word_part (lex (take top s)) (lex (between top x s)) (between x y s)))
+word-adds s top x y t t' o a g =
+    subst (λ (k : ℕ). Adds t o t' (pushed o k) (with_node 0 (λ ns. word_part (lex (take top s)) (lex (between top x s)) (between x y s)))) (let z : o.len - 0 ≡ o.len = omega arith in z)
+    (adds-node t t' o a 0 (λ ns. word_part (lex (take top s)) (lex (between top x s)) (between x y s)) (λ ns. word-node (lex (take top s)) (lex (between top x s)) (between x y s)) g)
 
 -- ---- a form
-module _ (s : List ℕ) (top at : ℕ) (f : Form) (c : Closes s top at f) where
+module _ (s : List ℕ) (top at : ℕ) (h : (top ≤ at) × (at ≤ length s)) where
   abbrev before : List Token
   before = lex (take top s)
 
-  abbrev found : Around
-  found = record { rest = reverse (lex (between top f.«open» s)); items = f.items; head = between f.a f.b s; second = between f.c f.d s }
+  abbrev here : List ℕ
+  here = between top at s
 
-  pub form-none : (out stack : List ℕ) (o : Made) → Able out stack o → f.found ≡ false
-      → Adds out stack o out stack o (close_form before (around 0 0 [] [] (reverse (lex (between top at s)))))
-  form-none out stack o a e = record { room = a.room; long = a.long; writes = λ q w. rw (c.same, e) w }
+  pub form-none : (t : List ℕ) (o : Waiting) → Able t o → Closes here None → Adds t o t o (close_form before (around 0 0 [] [] (reverse (lex here))))
+  form-none t o a c = record { long = a.long; writes = λ q w. rw c.same w }
 
-  pub form-adds : Parted s top → f.found ≡ true → (out stack out' stack' : List ℕ) (o o' : Made) (len k : ℕ) → Able out stack o → k ≡ f.items - leads (head_by_code (code_of (between f.a f.b s)))
-      → Grown out o.len out' len
-      (form_bytes s (record { top = top; start = f.«open»; a = f.a; b = f.b; c = f.c; d = f.d }) (between (o.sp - k) o.sp stack))
-      → Pushed stack stack' (o.sp - k) len o o' → Adds out stack o out' stack' o' (close_form before (around 0 0 [] [] (reverse (lex (between top at s)))))
-  form-adds h e out stack out' stack' o o' len k a ek g p =
-      subst (λ (r : Option Around). Adds out stack o out' stack' o' (close_form before r)) (sym (c.same ∙ ap (λ (b : Bool). cond b (some found) none) e))
-      (subst (λ (n : ℕ). Adds out stack o out' stack' o' (with_node n (part (before ++ reverse found.rest)))) count
-      (adds-node out stack out' stack' o o' a len k (part (before ++ reverse found.rest)) (λ ns. a-node (before ++ reverse found.rest) ns)
-      (subst (λ (ts : List Token). Grown out o.len out' len (flat_bytes (part ts (between (o.sp - k) o.sp stack)))) given g) p))
-    where
-      part : List Token → List ℕ → Part
-      part ts ns = form_part (definitions_in before) (given_in ts) found.head (bare found.second nil) ns (head_of found.head)
+  module _ (f : Form) (c : Closes here (Some f)) where
+    abbrev found : Around
+    found = record { rest = reverse (lex (take f.«open» here)); items = f.items; head = f.head.now; second = f.second.now }
 
-      a-node : (ts : List Token) (ns : List ℕ) → ANode (part ts ns)
-      a-node ts ns = form-node (definitions_in before) (given_in ts) found.head found.second ns (head_of found.head)
+    pub open-within : f.«open» ≤ at - top
+    open-within = let i = c.inside.0 in rw (length-between top at s h.1) at i
 
-      given : lex (take f.«open» s) ≡ before ++ reverse found.rest
-      given = lex-part s top f.«open» c.behind h ∙ ap (λ (l : List Token). before ++ l) (sym (reverse-reverse (lex (between top f.«open» s))))
+    front : take f.«open» here ≡ between top (top + f.«open») s
+    front =
+        let i = open-within in
+        let z : top + f.«open» - top ≡ f.«open» = omega arith in
+        rw (z, take-take f.«open» (at - top) (drop top s) i)
 
-      count : k ≡ f.items - leads (head_of found.head)
-      count = ek ∙ ap (λ (x : Head). f.items - leads x) (sym (code-head found.head))
+    abbrev part : List Token → List ℕ → Part
+    part ts ns = form_part (definitions_in before) (given_in ts) f.head.now (bare f.second.now nil) ns (head_of f.head.now)
 
-  -- by what the code finds: its code n, its operands k, where they begin
-  pub form-by : Parted s top → f.found ≡ true → (out stack out' stack' : List ℕ) (o o' : Made) (len n k from : ℕ) → Able out stack o → n ≡ code_of (between f.a f.b s)
-      → k ≡ f.items - leads (head_by_code n) → from ≡ o.sp - k
-      → Grown out o.len out' len (form_bytes s (record { top = top; start = f.«open»; a = f.a; b = f.b; c = f.c; d = f.d }) (between from o.sp stack))
-      → Pushed stack stack' from len o o' → Adds out stack o out' stack' o' (close_form before (around 0 0 [] [] (reverse (lex (between top at s)))))
-  form-by h e out stack out' stack' o o' len n k from a en ek ef g p =
-      form-adds h e out stack out' stack' o o' len k a (ek ∙ ap (λ (x : ℕ). f.items - leads (head_by_code x)) en)
-      (subst (λ (x : ℕ). Grown out o.len out' len (form_bytes s (record { top = top; start = f.«open»; a = f.a; b = f.b; c = f.c; d = f.d }) (between x o.sp stack))) ef g)
-      (subst (λ (x : ℕ). Pushed stack stack' x len o o') ef p)
+    given : Parted s top → lex (take (top + f.«open») s) ≡ before ++ reverse found.rest
+    given p =
+        let i = open-within in
+        lex-part s top (top + f.«open») (omega arith) p
+        ∙ ap (λ (l : List Token). before ++ l) (sym (reverse-reverse (lex (take f.«open» here)) ∙ ap lex front))
+
+    -- by what the code finds: its code n, its operands k, where they begin
+    pub form-adds : Parted s top → (t t' : List ℕ) (o : Waiting) (n k from : ℕ) → Able t o → n ≡ code_of f.head.now → k ≡ f.items - leads (head_by_code n) → from ≡ o.len - k
+        → t' ≡ t ++ form_bytes (take top s) (take (top + f.«open») s) f.head.now f.second.now (between from o.len o.numbers)
+        → Adds t o t' (pushed o from) (close_form before (around 0 0 [] [] (reverse (lex here))))
+    form-adds p t t' o n k from a en ek ef g =
+        subst (λ (r : Option Around). Adds t o t' (pushed o from) (close_form before r)) (sym c.same)
+        (subst (λ (x : ℕ). Adds t o t' (pushed o x) (close_form before (some found))) (sym ef)
+        (subst (λ (i : ℕ). Adds t o t' (pushed o (o.len - k)) (with_node i (part (before ++ reverse found.rest)))) count
+        (adds-node t t' o a k (part (before ++ reverse found.rest)) (λ ns. form-node (definitions_in before) (given_in (before ++ reverse found.rest)) f.head.now f.second.now ns (head_of f.head.now))
+        (subst (λ (ts : List Token). t' ≡ t ++ flat_bytes (part ts (between (o.len - k) o.len o.numbers))) (given p)
+        (subst (λ (x : ℕ). t' ≡ t ++ form_bytes (take top s) (take (top + f.«open») s) f.head.now f.second.now (between x o.len o.numbers)) ef g)))))
+      where
+        count : k ≡ f.items - leads (head_of f.head.now)
+        count = ek ∙ ap (λ (x : ℕ). f.items - leads (head_by_code x)) en ∙ ap (λ (x : Head). f.items - leads x) (sym (code-head f.head.now))
 
 -- ---- a definition
-pub definition-adds : (out stack out' : List ℕ) (o o' : Made) (count n x y : ℕ) → Able out stack o → n ≡ count → x ≡ byte n → y ≡ last_of stack o.sp
-    → Grown out o.len out' o'.len (field_bytes 2 (x ∷ y ∷ [])) → o'.sp ≡ o.sp - 1 → o'.nodes ≡ o.nodes → o'.defs ≡ o.defs + 1
-    → Adds out stack o out' stack o' (with_definition count)
-definition-adds out stack out' o o' count n x y a en ex ey g e1 e2 e3 = record {
-  room = g.room ∙ a.room;
+pub definition-adds : (t t' : List ℕ) (o : Waiting) (count n x y : ℕ) → Able t o → n ≡ count → x ≡ byte n → y ≡ last_of o.numbers o.len → t' ≡ t ++ field_bytes 2 (x ∷ y ∷ [])
+    → Adds t o t' (record { numbers = o.numbers; len = o.len - 1; nodes = o.nodes; defs = o.defs + 1 }) (with_definition count)
+definition-adds t t' o count n x y a en ex ey g = record {
   long = a.long;
-  writes = λ q w. definition-written out stack out' o o' q count w
-      (subst (λ (k : ℕ). Grown out o.len out' o'.len (field_bytes 2 (k ∷ last_of stack o.sp ∷ []))) (ex ∙ ap byte en)
-      (subst (λ (k : ℕ). Grown out o.len out' o'.len (field_bytes 2 (x ∷ k ∷ []))) ey g)) e1 e2 e3;
+  writes = λ q w. definition-written t t' o q count w
+      (subst (λ (k : ℕ). t' ≡ t ++ field_bytes 2 (k ∷ last_of o.numbers o.len ∷ [])) (ex ∙ ap byte en) (subst (λ (k : ℕ). t' ≡ t ++ field_bytes 2 (x ∷ k ∷ [])) ey g));
 }
 
 -- ---- a token
-pub adds-nothing : (out stack : List ℕ) (o : Made) → Able out stack o → (f : Output → Output) → ((q : Output) → f q ≡ q) → Adds out stack o out stack o f
-adds-nothing out stack o a f e = record { room = a.room; long = a.long; writes = λ q w. rw (e q) w }
+pub mode-is : (a b : Mode) (r : Bool) → r ≡ sameb the_type a b → r ≡ true → number_of a ≡ number_of b
+mode-is a b r e t = eqb-true (number_of a) (number_of b) (sym (modes-same a b) ∙ sym e ∙ t)
 
-pub adds-as : (out stack out' stack' : List ℕ) (o o' : Made) (f g : Output → Output) → ((q : Output) → f q ≡ g q) → Adds out stack o out' stack' o' g → Adds out stack o out' stack' o' f
-adds-as out stack out' stack' o o' f g e a = record { room = a.room; long = a.long; writes = λ q w. rw (e q) (a.writes q w) }
+pub mode-not : (a b : Mode) (r : Bool) → r ≡ sameb the_type a b → r ≡ false → number_of a ≡ number_of b → ⊥
+mode-not a b r e f = eqb-false (number_of a) (number_of b) (sym (modes-same a b) ∙ sym e ∙ f)
+
+pub adds-nothing : (t : List ℕ) (o : Waiting) → Able t o → (f : Output → Output) → ((q : Output) → f q ≡ q) → Adds t o t o f
+adds-nothing t o a f e = record { long = a.long; writes = λ q w. rw (e q) w }
+
+pub adds-as : (t t' : List ℕ) (o o' : Waiting) (f g : Output → Output) → ((q : Output) → f q ≡ g q) → Adds t o t' o' g → Adds t o t' o' f
+adds-as t t' o o' f g e a = record { long = a.long; writes = λ q w. rw (e q) (a.writes q w) }
 
 module _ (before here : List Token) (m d : ℕ) (q : Output) where
   pub on-parameters : m ≡ 4 → emitted before here m d closing q ≡ q
@@ -161,17 +164,14 @@ module _ (before here : List Token) (m d : ℕ) (q : Output) where
   unfolding emitted
   on-form n e = rw (ne_eqb m 4 n, e)
 
-  pub on-opening : (k : ℕ) (w : Word) → k ≡ 1 → emitted before here m d (token_by k w) q ≡ q
+  pub on_word : (w : Word) → m ≡ 0 → emitted before here m d (word w) q ≡ with_node 0 (λ ns. word_part before here w) q
   unfolding emitted
-  on-opening k w e = rw e
+  on_word w e = rw e
 
-  pub on-closing : (k : ℕ) (w : Word) → k ≡ 2 → emitted before here m d (token_by k w) q ≡ emitted before here m d closing q
-  on-closing k w e = rw e
-
-  pub on_word : (k : ℕ) (w : Word) → (k ≡ 1 → ⊥) → (k ≡ 2 → ⊥) → m ≡ 0 → emitted before here m d (token_by k w) q ≡ with_node 0 (λ ns. word_part before here w) q
+  pub on-name : (w : Word) → (m ≡ 0 → ⊥) → emitted before here m d (word w) q ≡ q
   unfolding emitted
-  on_word k w x y e = rw (ne_eqb k 1 x, ne_eqb k 2 y, e)
+  on-name w e = rw (ne_eqb m 0 e)
 
-  pub on-name : (k : ℕ) (w : Word) → (k ≡ 1 → ⊥) → (k ≡ 2 → ⊥) → (m ≡ 0 → ⊥) → emitted before here m d (token_by k w) q ≡ q
+  pub on-opening : emitted before here m d opening q ≡ q
   unfolding emitted
-  on-name k w x y e = rw (ne_eqb k 1 x, ne_eqb k 2 y, ne_eqb m 0 e)
+  on-opening = refl

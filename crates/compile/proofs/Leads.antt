@@ -1,6 +1,7 @@
 -- How many items lead a form's operands, by its head's code. Assumes nothing.
 use mathlib.Core.Path.{◌≡◌, refl}
 use mathlib.Core.Bool.{Bool, true, false, cond}
+use mathlib.Core.Logic.{◌⊎◌, inl, inr}
 use Prim.Native.Nat.{ℕ, zero, suc, ◌-◌}
 use native.Mathlib.Omega.{arith}
 use lib.Dec.{ltb}
@@ -24,18 +25,15 @@ by_place (suc (suc (suc (suc (suc (suc (suc (suc (suc zero))))))))) p q = refl
 by_place (suc (suc (suc (suc (suc (suc (suc (suc (suc (suc zero)))))))))) p q = refl
 by_place (suc (suc (suc (suc (suc (suc (suc (suc (suc (suc (suc i))))))))))) p q = refl
 
-pub other-lead : (k : ℕ) → (k ≡ 11 → ⊥) → (k ≡ 17 → ⊥) → leads (head_by_code k) ≡ 1
+pub one-lead : (k : ℕ) → ((k ≡ 11) ⊎ (k ≡ 17) → ⊥) → leads (head_by_code k) ≡ 1
 unfolding head_by_code
-other-lead k p q = go (ltb k 9) refl
+one-lead k p = go (ltb k 9) refl
   where
     go : (b : Bool) → ltb k 9 ≡ b → leads (cond b operation (get_or form_heads (k - 9) nothing)) ≡ 1
     go true e = refl
-    go false e = let l = ltb-false k 9 e in by_place (k - 9) (λ x. p (omega (arith, l, x))) (λ x. q (omega (arith, l, x)))
+    go false e = let l = ltb-false k 9 e in by_place (k - 9) (λ x. p (inl (omega (arith, l, x)))) (λ x. p (inr (omega (arith, l, x))))
 
-pub rep-lead : leads (head_by_code 11) ≡ 2
+pub two-leads : (k : ℕ) → (k ≡ 11) ⊎ (k ≡ 17) → leads (head_by_code k) ≡ 2
 unfolding head_by_code
-rep-lead = refl
-
-pub fold-lead : leads (head_by_code 17) ≡ 2
-unfolding head_by_code
-fold-lead = refl
+two-leads k (inl e) = rw e
+two-leads k (inr e) = rw e

@@ -24,8 +24,8 @@ put_next [] k x h = absurd (omega arith)
 put_next (a ∷ l) zero x h = refl
 put_next (a ∷ l) (suc k) x h = ap (λ (r : List ℕ). a ∷ r) (put_next l k x (omega (arith, h)))
 
-pub pushed : (stack st : List ℕ) (k n : ℕ) → k < length stack → take k stack ≡ map byte (reverse st) → take (k + 1) (set stack k (byte n)) ≡ map byte (reverse (n ∷ st))
-pushed stack st k n h e =
+pub stacked : (stack st : List ℕ) (k n : ℕ) → k < length stack → take k stack ≡ map byte (reverse st) → take (k + 1) (set stack k (byte n)) ≡ map byte (reverse (n ∷ st))
+stacked stack st k n h e =
     rw (add-one k) (put_next stack k (byte n) h ∙ ap (λ (l : List ℕ). l ++ byte n ∷ []) e ∙ sym (rw (reverse-cons n st) (map-append (reverse st) (n ∷ []))))
 
 -- ---- the last k numbers, and those before

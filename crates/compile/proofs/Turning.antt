@@ -3,11 +3,11 @@ use mathlib.Core.Path.{◌≡◌, refl, sym, ap, subst, ◌∙◌}
 use mathlib.Core.Bool.{Bool, true, false, cond, ◌||◌}
 use mathlib.Core.List.{List, [], ◌∷◌, ◌++◌, append-nil}
 use mathlib.Core.Logic.{◌⊎◌, inl, inr}
-use Prim.Native.Nat.{ℕ, zero, suc, ◌+◌, ◌-◌, ◌≤◌, ◌<◌}
+use Rattle.std.specs.Prelude.{Some, None}
+use Prim.Native.Nat.{ℕ, zero, suc, ◌+◌, ◌≤◌, ◌<◌}
 use native.Mathlib.Omega.{arith}
 use lib.Dec.{eqb, ltb}
-use lib.ListN.{length, take, drop, get_or, replicate, length-append, length-replicate}
-use lib.Seq.{drop-length}
+use lib.ListN.{length, take, drop, get_or, replicate, length-replicate}
 use borrow.Author.Tests.{ltb-true, ltb-false}
 use Rattle.program.specs.Check.{check}
 use Rattle.program.specs.Conditions.{field_bytes, definitions_of}
@@ -15,19 +15,18 @@ use Rattle.notation.specs.Words.{between}
 use Rattle.notation.specs.Grammar.{Token, Program, program_tokens, FineProgram}
 use Rattle.notation.proofs.Lexing.{lex}
 use Rattle.lexemes.specs.declared.Lexeme.{Lexeme}
-use Rattle.lexemes.specs.Lexeme.{next_lexeme, token_by, token_of, Parted, depth_by, depth_after}
-use Rattle.lexemes.proofs.Laws.{parted-splits, next-end}
+use Rattle.lexemes.specs.Lexeme.{next_lexeme, token_of, Parted, depth_by, depth_after}
+use Rattle.lexemes.proofs.Laws.{Behind, parted-splits, next-end}
 use Rattle.translation.specs.Numbering.{byte, table}
-use Rattle.table_writer.specs.Grown.{Grown}
 use Rattle.vocabulary.specs.Codes.{token_code}
 use Rattle.token_scans.specs.Scan.{mode_after}
 use Rattle.decide.proofs.Picks.{not-both}
 use Rattle.lexemes.proofs.Depth.{depth-kind, depth-most}
-use Rattle.token_scans.proofs.Cuts.{Cut, cut-first, cut-within, cut-less, cut-next, new-form, same-form, one_more, cut-begun, cut-top, to-end-from}
+use Rattle.token_scans.proofs.Cuts.{Cut, cut-first, cut-within, cut-next, new-form, same-form, one_more, cut-begun, cut-top, to-end-from}
 use Rattle.tabling.specs.Fields.{flat_fields, Overfull}
 use Rattle.tabling.specs.Emit.{Output, State, emitted, taken, step, emit, start}
 use Rattle.tabling.proofs.Prefix.{emit-append, emit-counted, Counted, table-emitted, cut-table}
-use Rattle.compile.specs.declared.Made.{Made}
+use Rattle.compile.specs.declared.Waiting.{Waiting}
 use Rattle.compile.specs.Writes.{last_of, Writes, Able, Adds, Compiles}
 use Rattle.compile.proofs.Writing.{last-number}
 
@@ -61,92 +60,79 @@ module _ (s : List ℕ) (top at d m : ℕ) (q : Output) (g : Going s top at d m 
   counted : Counted q
   counted = subst Counted (ap (λ (x : State). x.out) g.same) (emit-counted (lex (take at s)))
 
-  pub able : (out stack : List ℕ) (o : Made) → length out ≡ 2560 → length stack ≡ 257 → Writes out stack o q → o.nodes ≤ 256 → o.defs ≤ 32 → Able out stack o
-  able out stack o x y w n k =
+  pub able : (t : List ℕ) (o : Waiting) → length o.numbers ≡ 257 → Writes t o q → o.nodes ≤ 256 → o.defs ≤ 32 → Able t o
+  able t o y w n k =
       let f = counted.few in
       let c = counted.small in
+      let b = ap length w.bytes in
       record {
-        room = x;
         long = y;
         waiting = omega (arith, f, n, w.waiting, w.nodes);
         nodes = n;
         defs = k;
-        small = omega (arith, c, n, k, w.len, w.waiting, w.nodes, w.defs);
+        small = omega (arith, c, n, k, b, w.waiting, w.nodes, w.defs);
       }
 
-  module _ (r : Lexeme) (e : r ≡ next_lexeme s at) where
-    module _ (is : r.kind ≡ 0 → ⊥) (top' : ℕ) (t : top' ≡ cond (eqb d 0) r.start top) where
-      pub next : (d' m' : ℕ) (q' : Output) → d' ≡ depth_after d (token_of s r) → d' ≤ d + 1 → m' ≡ mode_after m (token_code (token_of s r))
-          → q' ≡ emitted (lex (take top' s)) (lex (between top' r.start s)) m d (token_of s r) q → Going s top' r.end d' m' q'
-      next d' m' q' ed h em eq = record {
-        cut = cut-next s top at d g.cut r e is top' t d' h;
-        same =
-            ap (emit start) (to-end-from s top at d g.cut r e is top' t) ∙ emit-append start (lex (take at s)) (token_of s r ∷ [])
-            ∙ ap (λ (x : State). emit x (token_of s r ∷ [])) g.same ∙ one-step (state_at s top at d m q) (token_of s r)
-            ∙ rw (ed, em, eq) (stepped (lex (take top s)) (lex (between top at s)) (lex (take top' s)) (lex (between top' r.start s)) (lex (between top' r.end s)) d m q (token_of s r)
-            (new-form s top at d g.cut r e is top' t) (same-form s top at d g.cut r e is top' t)
-            (one_more s top at d g.cut r e is top' t top' (cut-begun s top at d g.cut r e is top' t) (cut-top s top at d g.cut r e is top' t)));
-      }
+  module _ (r : Lexeme) (e : next_lexeme s at ≡ Some r) (top' : ℕ) (t : top' ≡ cond (eqb d 0) r.start top) where
+    pub next : (d' m' : ℕ) (q' : Output) → d' ≡ depth_after d (token_of s r) → d' ≤ d + 1 → m' ≡ mode_after m (token_code (token_of s r))
+        → q' ≡ emitted (lex (take top' s)) (lex (between top' r.start s)) m d (token_of s r) q → Going s top' r.end d' m' q'
+    next d' m' q' ed h em eq = record {
+      cut = cut-next s top at d g.cut r e top' t d' h;
+      same =
+          ap (emit start) (to-end-from s top at d g.cut r e top' t) ∙ emit-append start (lex (take at s)) (token_of s r ∷ [])
+          ∙ ap (λ (x : State). emit x (token_of s r ∷ [])) g.same ∙ one-step (state_at s top at d m q) (token_of s r)
+          ∙ rw (ed, em, eq) (stepped (lex (take top s)) (lex (between top at s)) (lex (take top' s)) (lex (between top' r.start s)) (lex (between top' r.end s)) d m q (token_of s r)
+          (new-form s top at d g.cut r e top' t) (same-form s top at d g.cut r e top' t)
+          (one_more s top at d g.cut r e top' t top' (cut-begun s top at d g.cut r e top' t) (cut-top s top at d g.cut r e top' t)));
+    }
 
   -- ---- the end of the text
   whole : lex (drop at s) ≡ [] → lex (take at s) ≡ lex s
   whole z = sym (parted-splits s at g.cut.cut_here ∙ ap (λ (l : List Token). lex (take at s) ++ l) z ∙ append-nil (lex (take at s)))
 
-  pub ended : lex (drop at s) ≡ [] → (out stack out' : List ℕ) (o : Made) (k : ℕ) → length out ≡ 2560 → Writes out stack o q → k ≤ length out'
-      → Grown out o.len out' k (field_bytes 3 (last_of stack o.sp ∷ [])) → Compiles s out' k
-  ended z out stack out' o k x w h u = record { same = λ p f l. ap check (all p f l); whole = λ p f l c. all p f l; within = h; room = u.room ∙ x }
+  pub ended : lex (drop at s) ≡ [] → (t t' : List ℕ) (o : Waiting) → Writes t o q → t' ≡ t ++ field_bytes 3 (last_of o.numbers o.len ∷ []) → Compiles s t'
+  ended z t t' o w u = record { same = λ p f l. ap check (all p f l); whole = λ p f l c. all p f l }
     where
-      all : (p : Program) → FineProgram p → lex s ≡ program_tokens p → take k out' ≡ table p
+      all : (p : Program) → FineProgram p → lex s ≡ program_tokens p → t' ≡ table p
       all p f l =
           let y : (emit start (program_tokens p)).out ≡ q = ap (λ (ts : List Token). (emit start ts).out) (sym l ∙ sym (whole z)) ∙ ap (λ (x : State). x.out) g.same in
-          u.holds ∙ ap (λ (b : List ℕ). b ++ field_bytes 3 (last_of stack o.sp ∷ [])) w.bytes
-          ∙ ap (λ (n : ℕ). flat_fields q.parts ++ field_bytes 3 (n ∷ [])) (last-number stack q.stack o.sp w.numbers w.waiting)
+          u ∙ ap (λ (b : List ℕ). b ++ field_bytes 3 (last_of o.numbers o.len ∷ [])) w.bytes
+          ∙ ap (λ (n : ℕ). flat_fields q.parts ++ field_bytes 3 (n ∷ [])) (last-number o.numbers q.stack o.len w.numbers w.waiting)
           ∙ sym (table-emitted p f ∙ ap (λ (x : Output). flat_fields x.parts ++ field_bytes 3 (byte (get_or x.stack 0 0) ∷ [])) y)
 
   -- ---- more nodes or definitions than a table holds
-  pub full : (out stack : List ℕ) (o : Made) → length out ≡ 2560 → Writes out stack o q → (256 < o.nodes) ⊎ (32 < o.defs) → o.len ≤ length out → Compiles s out o.len
-  full out stack o x w v h = record { same = λ p f l. (cut_short p f l).0; whole = λ p f l c. absurd ((cut_short p f l).1 c); within = h; room = x }
+  pub full : (t : List ℕ) (o : Waiting) → Writes t o q → (256 < o.nodes) ⊎ (32 < o.defs) → Compiles s t
+  full t o w v = record { same = λ p f l. (cut_short p f l).0; whole = λ p f l c. absurd ((cut_short p f l).1 c) }
     where
       over : (256 < o.nodes) ⊎ (32 < o.defs) → Overfull q.parts
       over (inl x) = inl (let c = counted.nodes in omega (arith, x, c, w.nodes))
       over (inr x) = inr (omega (arith, x, w.defs))
 
-      cut_short : (p : Program) → FineProgram p → lex s ≡ program_tokens p → (check (take o.len out) ≡ check (table p)) × ((check (table p)).0 ≡ 0 → ⊥)
+      cut_short : (p : Program) → FineProgram p → lex s ≡ program_tokens p → (check t ≡ check (table p)) × ((check (table p)).0 ≡ 0 → ⊥)
       cut_short p f l =
           let y = ap (λ (x : State). x.out) g.same in
           let c = cut-table p f (lex (take at s)) (lex (drop at s)) (sym l ∙ parted-splits s at g.cut.cut_here) (subst (λ (x : Output). Overfull x.parts) (sym y) (over v)) in
           (ap check w.bytes ∙ sym (c.0 ∙ ap (λ (x : Output). check (flat_fields x.parts)) y), c.1)
 
 -- ---- the loop
-pub record Making (s out stack : List ℕ) (o : Made) (top at d m : ℕ) : Type 0 where
+pub record Making (s t : List ℕ) (o : Waiting) (top at d m : ℕ) : Type 0 where
   pub output : Output
   pub going : Going s top at d m output
-  pub writes : Writes out stack o output
-  pub room : length out ≡ 2560
-  pub long : length stack ≡ 257
+  pub writes : Writes t o output
+  pub long : length o.numbers ≡ 257
   pub nodes : o.nodes ≤ 256
   pub defs : o.defs ≤ 32
 
-pub making-first : (s out : List ℕ) → length out ≡ 2560 → Making s out (replicate 257 0) (record { len = 0; sp = 0; nodes = 0; defs = 0 }) 0 0 0 0
+pub making-first : (s : List ℕ) → Making s [] (record { numbers = replicate 257 0; len = 0; nodes = 0; defs = 0 }) 0 0 0 0
 unfolding flat_fields definitions_of
-making-first s out x = record {
+making-first s = record {
   output = record { parts = []; stack = []; nodes = 0 };
   going = begin s;
-  writes = record { bytes = refl; len = refl; numbers = refl; waiting = refl; nodes = refl; defs = refl };
-  room = x;
+  writes = record { bytes = refl; numbers = refl; waiting = refl; nodes = refl; defs = refl };
   long = length-replicate {A = ℕ} 257 0;
   nodes = omega arith;
   defs = omega arith;
 }
-
--- so many are there as were taken
-took : (k : ℕ) (l : List ℕ) → length (take k l) ≡ k → k ≤ length l
-took zero l e = omega arith
-took (suc k) [] e = absurd (omega (arith, e))
-took (suc k) (x ∷ l) e = let h = took k l (let z : length (take k l) ≡ k = omega (arith, e) in z) in omega (arith, h)
-
-written-within : (out stack : List ℕ) (o : Made) (q : Output) → Writes out stack o q → o.len ≤ length out
-written-within out stack o q w = took o.len out (ap length w.bytes ∙ sym w.len)
 
 over : (a b : ℕ) → (ltb 256 a || ltb 32 b) ≡ true → (256 < a) ⊎ (32 < b)
 over a b e = go (ltb 256 a) refl e
@@ -162,58 +148,45 @@ under a b e = go (ltb 256 a) refl e
     go true p q = not-both q
     go false p q = (ltb-false 256 a p, ltb-false 32 b q)
 
-module _ (s out stack : List ℕ) (o : Made) (top at d m : ℕ) (g : Making s out stack o top at d m) where
-  pub making-able : Able out stack o
-  making-able = able s top at d m g.output g.going out stack o g.room g.long g.writes g.nodes g.defs
+module _ {s t : List ℕ} {o : Waiting} {top at d m : ℕ} (g : Making s t o top at d m) where
+  pub making-able : Able t o
+  making-able = able s top at d m g.output g.going t o g.long g.writes g.nodes g.defs
 
-  pub making-end : lex (drop at s) ≡ [] → (out' : List ℕ) (k x : ℕ) → x ≡ last_of stack o.sp → Grown out o.len out' k (field_bytes 3 (x ∷ [])) → Compiles s out' k
-  making-end z out' k x e u =
-      let u' = subst (λ (n : ℕ). Grown out o.len out' k (field_bytes 3 (n ∷ []))) e u in
-      let l = length-append (take o.len out) (field_bytes 3 (last_of stack o.sp ∷ [])) in
-      let b : length (take o.len out) ≡ o.len = ap length g.writes.bytes ∙ sym g.writes.len in
-      ended s top at d m g.output g.going z out stack out' o k g.room g.writes (took k out' (ap length u'.holds ∙ (let q = u'.ends in omega (arith, l, b, q)))) u'
+  pub making-cut : Cut s top at d
+  making-cut = g.going.cut
 
-  pub making-over : length s ≤ at → lex (drop at s) ≡ []
-  making-over h = let z : at ≡ length s = omega (arith, h, g.going.cut.within) in rw (z, drop-length s)
+  pub making-end : next_lexeme s at ≡ None → (t' : List ℕ) (x : ℕ) → x ≡ last_of o.numbers o.len → t' ≡ t ++ field_bytes 3 (x ∷ []) → Compiles s t'
+  making-end z t' x e u =
+      ended s top at d m g.output g.going (next-end s at g.going.cut.within z) t t' o g.writes (subst (λ (n : ℕ). t' ≡ t ++ field_bytes 3 (n ∷ [])) e u)
 
-  module _ (r : Lexeme) (e : r ≡ next_lexeme s at) where
-    pub making-none : r.kind ≡ 0 → lex (drop at s) ≡ []
-    making-none z = next-end s at g.going.cut.within (sym (ap (λ (l : Lexeme). l.kind) e) ∙ z)
-
-    pub making-within : (at ≤ r.start) × (r.start ≤ r.end) × (r.end ≤ length s)
+  module _ (r : Lexeme) (e : next_lexeme s at ≡ Some r) where
+    pub making-within : Behind s at r
     making-within = cut-within s top at d g.going.cut r e
 
-    module _ (is : r.kind ≡ 0 → ⊥) (top' : ℕ) (t : top' ≡ cond (eqb d 0) r.start top) where
+    module _ (top' : ℕ) (f : top' ≡ cond (eqb d 0) r.start top) where
       pub making-begun : (top' ≤ r.start) × Parted s top'
-      making-begun = (cut-begun s top at d g.going.cut r e is top' t, cut-top s top at d g.going.cut r e is top' t)
+      making-begun = (cut-begun s top at d g.going.cut r e top' f, cut-top s top at d g.going.cut r e top' f)
 
-      pub making-less : at < r.end
-      making-less = cut-less s top at d g.going.cut r e is top' t
-
-      module _ (out' stack' : List ℕ) (o' : Made)
-          (a : Adds out stack o out' stack' o' (emitted (lex (take top' s)) (lex (between top' r.start s)) m d (token_by r.kind (between r.start r.end s)))) where
+      module _ (t' : List ℕ) (o' : Waiting) (a : Adds t o t' o' (emitted (lex (take top' s)) (lex (between top' r.start s)) m d (token_of s r))) where
         abbrev q' : Output
         q' = emitted (lex (take top' s)) (lex (between top' r.start s)) m d (token_of s r) g.output
 
         on : Going s top' r.end (depth_by d r.kind) (mode_after m (token_code (token_of s r))) q'
         on =
-            next s top at d m g.output g.going r e is top' t (depth_by d r.kind) (mode_after m (token_code (token_of s r))) q'
+            next s top at d m g.output g.going r e top' f (depth_by d r.kind) (mode_after m (token_code (token_of s r))) q'
             (sym (depth-kind d r.kind (between r.start r.end s))) (depth-most d r.kind) refl refl
 
-        pub making-full : (ltb 256 o'.nodes || ltb 32 o'.defs) ≡ true → Compiles s out' o'.len
-        making-full f =
-            let w = a.writes g.output g.writes in
-            full s top' r.end (depth_by d r.kind) (mode_after m (token_code (token_of s r))) q' on out' stack' o' a.room w (over o'.nodes o'.defs f) (written-within out' stack' o' q' w)
+        pub making-full : (ltb 256 o'.nodes || ltb 32 o'.defs) ≡ true → Compiles s t'
+        making-full h = full s top' r.end (depth_by d r.kind) (mode_after m (token_code (token_of s r))) q' on t' o' (a.writes g.output g.writes) (over o'.nodes o'.defs h)
 
-        pub making-next : (ltb 256 o'.nodes || ltb 32 o'.defs) ≡ false → (d' k m' : ℕ) → d' ≡ depth_by d r.kind → k ≡ token_code (token_by r.kind (between r.start r.end s))
-            → m' ≡ mode_after m k → Making s out' stack' o' top' r.end d' m'
-        making-next f d' k m' x y z =
-            let u = under o'.nodes o'.defs f in
+        pub making-next : (ltb 256 o'.nodes || ltb 32 o'.defs) ≡ false → (d' k m' : ℕ) → d' ≡ depth_by d r.kind → k ≡ token_code (token_of s r) → m' ≡ mode_after m k
+            → Making s t' o' top' r.end d' m'
+        making-next h d' k m' x y z =
+            let u = under o'.nodes o'.defs h in
             record {
               output = q';
               going = rw (x, z, y) on;
               writes = a.writes g.output g.writes;
-              room = a.room;
               long = a.long;
               nodes = u.0;
               defs = u.1;

@@ -1,254 +1,184 @@
-// From a text of the grammar to the bytes of its table, in one pass over its tokens: a node is written where its expression ends, a definition where its bracket closes. What waits for the
-// node that names it is a number on a stack. Nothing is kept of the text: whatever a node needs is found by a scan of what stands before it.
+// From a text of the grammar to its table, in one pass over its tokens: a node is written where its expression ends, a definition where its bracket closes. What waits for the node that names it
+// is a number on a stack. Nothing is kept of the text: whatever a node needs is found by a scan of what stands before it.
 #![tactic(auto)]
 
-ghost use Rattle.std.specs.Prelude.{◌≡◌, ◌&&◌, ◌||◌, [], reverse, ◌+◌, ◌-◌, ◌≤◌, ◌<◌, eqb, ltb, length, take, set};
+ghost use Rattle.std.specs.Prelude.{◌≡◌, ◌&&◌, ◌||◌, [], reverse, ◌+◌, ◌-◌, ◌≤◌, eqb, ltb, length, take};
 ghost use Rattle.notation.specs.Words.{between};
 ghost use Rattle.notation.proofs.Lexing.{lex};
 ghost use Rattle.notation.specs.Grammar.{closing};
-ghost use Rattle.lexemes.specs.Lexeme.{token_by, Parted};
+ghost use Rattle.lexemes.specs.Lexeme.{token_of, Parted};
 ghost use Rattle.vocabulary.specs.Codes.{head_by_code};
-ghost use Rattle.translation.specs.Numbering.{byte};
 ghost use Rattle.tabling.specs.Emit.{word_part, around, leads, close_form, is_definition, with_node, with_definition, emitted};
 ghost use Rattle.token_scans.specs.Scan.{parameters_in};
-ghost use Rattle.compile.specs.Writes.{last_of, Able, Adds, Compiles};
+ghost use Rattle.token_scans.specs.Sought.{number_of};
+ghost use Rattle.compile.specs.Writes.{last_of, pushed, Able, Adds, Compiles};
 
-// How far the table is: its bytes, the numbers that wait, its nodes and definitions.
-#[derive(Clone, Copy)]
-pub struct Made {
-    pub len: usize,
-    pub sp: usize,
-    pub nodes: usize,
-    pub defs: usize,
+use lexemes::{Kind, Lexeme};
+use table_writer::Table;
+use token_scans::Mode;
+use vocabulary::{FOLD, REP};
+
+// The numbers that wait, the last first to go, and how many nodes and definitions the table has.
+// Stays (c): the table is beside it, since the borrow checker covers no call that lends the table to be written and the numbers to be read where both are fields of one struct.
+#[derive(Drop)]
+pub struct Waiting {
+    numbers: [u8; 257],
+    len: usize,
+    nodes: usize,
+    defs: usize,
+}
+
+impl Waiting {
+    fn last(&self) -> u8
+        requires { self.now.len ≤ 257 }
+        ensures { result ≡ last_of self.now.numbers self.now.len }
+    {
+        if self.len == 0 {
+            0
+        } else {
+            self.numbers[self.len - 1]
+        }
+    }
+
+    // A node more, behind the first `from` numbers.
+    fn push(&mut self, from: usize)
+        requires { (from ≤ 256) × (self.old.nodes ≤ 256) }
+        ensures { self.new ≡ pushed self.old from }
+    {
+        self.numbers[from] = parts::byte_of(self.nodes);
+        self.len = from + 1;
+        self.nodes += 1;
+    }
+
+    // More nodes or definitions than a table holds.
+    fn is_full(&self) -> bool
+        ensures { result ≡ (ltb 256 self.now.nodes || ltb 32 self.now.defs) }
+    {
+        self.nodes > 256 || self.defs > 32
+    }
 }
 
 // How many operands a form has: its items but its head, the name that a rep binds, the function of a fold.
-fn operands_of(items: usize, k: u8) -> usize
-    ensures { result ≡ items - leads (head_by_code k) }
+fn operands_of(items: usize, code: u8) -> usize
+    ensures { result ≡ items - leads (head_by_code code) }
 {
-    let lead: usize = match k {
-        11 => 2,
-        17 => 2,
+    items.saturating_sub(match code {
+        REP | FOLD => 2,
         _ => 1,
-    };
-    below(items, lead)
+    })
 }
 
-// So many fewer, or none.
-fn below(n: usize, k: usize) -> usize
-    ensures { result ≡ n - k }
-{
-    if n < k {
-        return 0;
-    }
-    n - k
-}
-
-fn last(stack: &[u8; 257], sp: usize) -> u8
-    requires { (length stack.now ≡ 257) × (sp ≤ 257) }
-    ensures { result ≡ last_of stack.now sp }
-{
-    if sp == 0 {
-        return 0;
-    }
-    stack[sp - 1]
-}
-
-// A node more, behind the first `from` numbers that wait.
-fn push(stack: &mut [u8; 257], from: usize, len: usize, o: Made) -> Made
-    requires { (length stack.old ≡ 257) × (from ≤ 256) × (o.nodes ≤ 256) }
-    ensures { (stack.new ≡ set stack.old from (byte o.nodes)) × (result.len ≡ len) × (result.sp ≡ from + 1) × (result.nodes ≡ o.nodes + 1) × (result.defs ≡ o.defs) }
-{
-    stack[from] = parts::byte_of(o.nodes);
-    Made {
-        len: len,
-        sp: from + 1,
-        nodes: o.nodes + 1,
-        defs: o.defs,
-    }
-}
-
-// A word that stands alone.
-fn word_done(
-    s: &[u8],
-    top: usize,
-    a: usize,
-    b: usize,
-    out: &mut [u8; table_writer::ROOM],
-    stack: &mut [u8; 257],
-    o: Made,
-) -> Made
-    requires { (top ≤ a) × (a ≤ b) × (b ≤ length s.now) × Able out.old stack.old o }
-    ensures { Adds out.old stack.old o out.new stack.new result
+// A word that stands alone, a..b.
+fn word_done(table: &mut Table, waiting: &mut Waiting, s: &[u8], top: usize, a: usize, b: usize)
+    requires { (top ≤ a) × (a ≤ b) × (b ≤ length s.now) × Able table.old waiting.old }
+    ensures { Adds table.old waiting.old table.new waiting.new
         (with_node 0 (λ ns. word_part (lex (take top s.now)) (lex (between top a s.now)) (between a b s.now))) }
 {
-    let sp = o.sp;
-    let len = parts::put_word(s, top, a, b, out, o.len);
-    push(stack, sp, len, o)
+    parts::put_word(table, &s[..top], &s[top..a], &s[a..b]);
+    waiting.push(waiting.len);
 }
 
 // A form that ends at `at`.
-fn form_done(
-    s: &[u8],
-    top: usize,
-    at: usize,
-    out: &mut [u8; table_writer::ROOM],
-    stack: &mut [u8; 257],
-    o: Made,
-) -> Made
-    requires { (top ≤ at) × (at ≤ length s.now) × Parted s.now top × Able out.old stack.old o }
-    ensures { Adds out.old stack.old o out.new stack.new result
+fn form_done(table: &mut Table, waiting: &mut Waiting, s: &[u8], top: usize, at: usize)
+    requires { (top ≤ at) × (at ≤ length s.now) × Parted s.now top × Able table.old waiting.old }
+    ensures { Adds table.old waiting.old table.new waiting.new
         (close_form (lex (take top s.now)) (around 0 0 [] [] (reverse (lex (between top at s.now))))) }
 {
-    let f = forms::form_of(s, top, at);
-    if !f.found {
-        return o;
-    }
-    let sp = o.sp;
-    let k = operands_of(f.items, vocabulary::code(s, f.a, f.b));
-    let from = below(sp, k);
-    let form = parts::Form {
-        top: top,
-        start: f.open,
-        a: f.a,
-        b: f.b,
-        c: f.c,
-        d: f.d,
+    let Some(form) = forms::form_of(&s[top..at]) else {
+        return;
     };
-    let len = parts::put_form(s, form, out, o.len, stack, from, sp);
-    push(stack, from, len, o)
+    let count = operands_of(form.items, vocabulary::code(form.head));
+    let from = waiting.len.saturating_sub(count);
+    let operands = &waiting.numbers[from..waiting.len];
+    parts::put_form(table, &s[..top], &s[..top + form.open], form, operands);
+    waiting.push(from);
 }
 
 // A definition that ends at `at`.
-fn definition_done(
-    s: &[u8],
-    top: usize,
-    at: usize,
-    out: &mut [u8; table_writer::ROOM],
-    stack: &[u8; 257],
-    o: Made,
-) -> Made
-    requires { (top ≤ at) × (at ≤ length s.now) × Able out.old stack.now o }
-    ensures { Adds out.old stack.now o out.new stack.now result
+fn definition_done(table: &mut Table, waiting: &mut Waiting, s: &[u8], top: usize, at: usize)
+    requires { (top ≤ at) × (at ≤ length s.now) × Able table.old waiting.old }
+    ensures { Adds table.old waiting.old table.new waiting.new
         (with_definition (length (parameters_in (lex (between top at s.now))))) }
 {
-    let n = forms::parameters_of(s, top, at);
-    let sp = o.sp;
-    let len = table_writer::definition(out, o.len, parts::byte_of(n), last(stack, sp));
-    Made {
-        len: len,
-        sp: below(sp, 1),
-        nodes: o.nodes,
-        defs: o.defs + 1,
-    }
-}
-
-// Whether a closing bracket at `at`, with d brackets open, ends a definition.
-fn ends_definition(s: &[u8], top: usize, at: usize, d: usize) -> bool
-    requires { (top ≤ at) × (at ≤ length s.now) }
-    ensures { result ≡ (eqb d 1 && is_definition (lex (between top at s.now))) }
-{
-    if d == 1 {
-        return forms::is_definition(s, top, at);
-    }
-    false
+    let count = token_scans::names_in(&s[top..at], Mode::Parameters);
+    table.definition(parts::byte_of(count), waiting.last());
+    waiting.len = waiting.len.saturating_sub(1);
+    waiting.defs += 1;
 }
 
 // A closing bracket at `at`: it ends a list of parameters, a definition or a form.
 fn closing_done(
+    table: &mut Table,
+    waiting: &mut Waiting,
     s: &[u8],
     top: usize,
     at: usize,
-    m: u8,
-    d: usize,
-    out: &mut [u8; table_writer::ROOM],
-    stack: &mut [u8; 257],
-    o: Made,
-) -> Made
-    requires { (top ≤ at) × (at ≤ length s.now) × Parted s.now top × Able out.old stack.old o }
-    ensures { Adds out.old stack.old o out.new stack.new result
-        (emitted (lex (take top s.now)) (lex (between top at s.now)) m d closing) }
+    mode: Mode,
+    depth: usize,
+)
+    requires { (top ≤ at) × (at ≤ length s.now) × Parted s.now top × Able table.old waiting.old }
+    ensures { Adds table.old waiting.old table.new waiting.new
+        (emitted (lex (take top s.now)) (lex (between top at s.now)) (number_of mode) depth closing) }
 {
-    if m == 4 {
-        return o;
+    if mode == Mode::Parameters {
+        return;
     }
-    if ends_definition(s, top, at, d) {
-        return definition_done(s, top, at, out, stack, o);
+    if depth == 1 && forms::is_definition(&s[top..at]) {
+        definition_done(table, waiting, s, top, at);
+        return;
     }
-    form_done(s, top, at, out, stack, o)
+    form_done(table, waiting, s, top, at);
 }
 
-// The token a..b of that kind.
 fn token_done(
+    table: &mut Table,
+    waiting: &mut Waiting,
     s: &[u8],
     top: usize,
-    m: u8,
-    d: usize,
-    kind: u8,
-    a: usize,
-    b: usize,
-    out: &mut [u8; table_writer::ROOM],
-    stack: &mut [u8; 257],
-    o: Made,
-) -> Made
-    requires { (top ≤ a) × (a ≤ b) × (b ≤ length s.now) × Parted s.now top × Able out.old stack.old o }
-    ensures { Adds out.old stack.old o out.new stack.new result
-        (emitted (lex (take top s.now)) (lex (between top a s.now)) m d (token_by kind (between a b s.now))) }
+    mode: Mode,
+    depth: usize,
+    l: Lexeme,
+)
+    requires { (top ≤ l.start) × (l.start ≤ l.end) × (l.end ≤ length s.now) × Parted s.now top × Able table.old waiting.old }
+    ensures { Adds table.old waiting.old table.new waiting.new
+        (emitted (lex (take top s.now)) (lex (between top l.start s.now)) (number_of mode) depth (token_of s.now l)) }
 {
-    if kind == 1 {
-        return o;
+    match l.kind {
+        Kind::Opening => {}
+        Kind::Closing => closing_done(table, waiting, s, top, l.start, mode, depth),
+        Kind::Word => {
+            if mode == Mode::Elsewhere {
+                word_done(table, waiting, s, top, l.start, l.end);
+            }
+        }
     }
-    if kind == 2 {
-        return closing_done(s, top, a, m, d, out, stack, o);
-    }
-    if m == 0 {
-        return word_done(s, top, a, b, out, stack, o);
-    }
-    o
-}
-
-// More nodes or definitions than a table holds.
-fn full(o: Made) -> bool
-    ensures { result ≡ (ltb 256 o.nodes || ltb 32 o.defs) }
-{
-    if 256 < o.nodes {
-        return true;
-    }
-    32 < o.defs
 }
 
 // The table of a text, or as much of it as the check refuses alike.
-pub fn compile(s: &[u8], out: &mut [u8; table_writer::ROOM]) -> usize
-    requires { length out.old ≡ 2560 }
-    ensures { Compiles s.now out.new result }
+pub fn compile(s: &[u8]) -> Table
+    ensures { Compiles s.now result }
 {
-    let mut stack = [0; 257];
-    let mut o = Made {
+    let mut table = Table::new();
+    let mut waiting = Waiting {
+        numbers: [0; 257],
         len: 0,
-        sp: 0,
         nodes: 0,
         defs: 0,
     };
     let mut top: usize = 0;
     let mut at: usize = 0;
-    let mut d: usize = 0;
-    let mut m: u8 = 0;
-    while at < s.len() {
-        let l = lexemes::next(s, at);
-        let kind = l.kind;
-        let start = l.start;
-        let end = l.end;
-        if kind == 0 {
-            return table_writer::main_node(out, o.len, last(&stack, o.sp));
+    let mut depth: usize = 0;
+    let mut mode = Mode::Elsewhere;
+    while let Some(l) = lexemes::next(s, at) {
+        top = token_scans::form_start(depth, top, l.start);
+        token_done(&mut table, &mut waiting, s, top, mode, depth, l);
+        if waiting.is_full() {
+            return table;
         }
-        top = token_scans::form_start(d, top, start);
-        o = token_done(s, top, m, d, kind, start, end, out, &mut stack, o);
-        if full(o) {
-            return o.len;
-        }
-        d = lexemes::depth_after(d, kind);
-        m = token_scans::mode_after(m, vocabulary::token_code(s, kind, start, end));
-        at = end;
+        depth = lexemes::depth_after(depth, l.kind);
+        mode = mode.after(vocabulary::token_code(l.kind, &s[l.start..l.end]));
+        at = l.end;
     }
-    table_writer::main_node(out, o.len, last(&stack, o.sp))
+    table.main_node(waiting.last());
+    table
 }

@@ -14,21 +14,21 @@ ghost use Rattle.both.specs.Both.{Both, first, second};
 pub fn cuddystove_check(program: &[u8]) -> verdict::Verdict
     ensures { pair result ≡ check program.now }
 {
-    program_check::check(program)
+    verdict::Verdict::from(program_check::check(program))
 }
 
 // Reads a program's text; its table starts the slice: 0 and its length, or the refusal and its place.
 pub fn cuddystove_read_text(text: &[u8], table: &mut [u8]) -> verdict::Verdict
     ensures { Reads text.now table.old (pair result) table.new }
 {
-    texts::read_text(text, table)
+    verdict::Verdict::from(texts::read_text(text, table))
 }
 
 // Makes a network fresh; 11 and 0 where its length is wrong.
 pub fn cuddystove_fresh(network: &mut [i32]) -> verdict::Verdict
     ensures { (pair result, network.new) ≡ fresh_call network.old }
 {
-    fresh::fresh(network)
+    verdict::Verdict::from(fresh::fresh(network))
 }
 
 // Does one event, that of a list of exactly one field.
@@ -40,7 +40,7 @@ pub fn cuddystove_event(
 ) -> verdict::Verdict
     ensures { result_of result network.new space.new ≡ one_event program.now network.old list.now space.old }
 {
-    calls::event(program, network, list, space)
+    verdict::Verdict::from(calls::event(program, network, list, space))
 }
 
 // Does every event of a list, from first to last.
@@ -52,7 +52,7 @@ pub fn cuddystove_run(
 ) -> verdict::Verdict
     ensures { result_of result network.new space.new ≡ run program.now network.old list.now space.old }
 {
-    calls::run(program, network, list, space)
+    verdict::Verdict::from(calls::run(program, network, list, space))
 }
 
 // Runs two orders of the same events, each on a network of its own.

@@ -3,18 +3,22 @@ use mathlib.Core.Path.{◌≡◌, refl, sym, ap, ◌∙◌}
 use mathlib.Core.Bool.{Bool, true, false, cond, ◌||◌, ◌&&◌, false≢true}
 use mathlib.Core.List.{List, [], ◌∷◌}
 use mathlib.Core.Option.{Option, none, some}
-use Prim.Native.Nat.{ℕ, zero, suc, ◌+◌, ◌-◌, ◌<◌}
-use native.Mathlib.Nat.{zero-add, lt_irrefl}
+use native.Mathlib.Omega.{arith}
+use Prim.Native.Nat.{ℕ, zero, suc, ◌<◌}
+use native.Mathlib.Nat.{zero-add}
 use lib.Bits.{bit_and}
 use lib.Dec.{eqb}
 use lib.IntN.{ℤ, pos}
 use lib.ListN.{length, get_or, set, length-set}
 use lib.Seq.{get_or-set_same, get_or-set_other}
-use borrow.Author.Count.{below_more}
 use borrow.Author.Tests.{eqb-true, eqb-false}
 use Rattle.program.specs.Table.{among}
 use Rattle.bits.specs.Bits.{has_bit}
-use Rattle.number.specs.Number.{Operator, operator_of, div, eq_z, operation_result, faults, over}
+use Rattle.number.specs.Number.{div, eq_z, operation_result, faults, over}
+use Rattle.number.specs.Number as number
+use Rattle.arith.specs.Named.{named}
+use Rattle.arith.specs.declared.operator.Operator.{Operator}
+use Rattle.arith.specs.declared.operator.Operator.TheVariants.{Over}
 use Rattle.field.specs.Field.{Field, from, result_at, faults_at, pointwise, faults_in}
 use Rattle.domain.specs.Held.{cell_of, field_of}
 use Rattle.domain.specs.Members.{before, those, members, any_zero}
@@ -24,16 +28,12 @@ use Rattle.domain.proofs.Laws.{bit-members, shared-domain}
 
 -- ---- operators on fields
 
-pub division : {o : ℕ} → o ≡ 3 → operator_of o ≡ div
-unfolding operator_of
-division e = rw e
-
-pointwise-from : (o : Operator) (f g : ℕ → Option ℤ) (n a : ℕ) → pointwise o (from a n f) (from a n g) ≡ from a n (λ (k : ℕ). result_at o (f k) (g k))
+pointwise-from : (o : number.Operator) (f g : ℕ → Option ℤ) (n a : ℕ) → pointwise o (from a n f) (from a n g) ≡ from a n (λ (k : ℕ). result_at o (f k) (g k))
 unfolding pointwise from
 pointwise-from o f g zero a = refl
 pointwise-from o f g (suc n) a = ap (λ (l : Field). result_at o (f a) (g a) ∷ l) (pointwise-from o f g n (suc a))
 
-both : (o : Operator) (s t : Bool) (x y z : ℤ) → (s && t ≡ true → z ≡ operation_result o x y)
+both : (o : number.Operator) (s t : Bool) (x y z : ℤ) → (s && t ≡ true → z ≡ operation_result o x y)
     → cond (s && t) (some z) none ≡ result_at o (cond s (some x) none) (cond t (some y) none)
 both o true true x y z h = ap some (h refl)
 both o true false x y z h = refl
@@ -41,7 +41,7 @@ both o false true x y z h = refl
 both o false false x y z h = refl
 
 -- a field whose cells are the results at the devices that two fields share
-pub field_shared : (o : Operator) (d e : ℕ) (xs ys out : List ℤ)
+pub field_shared : (o : number.Operator) (d e : ℕ) (xs ys out : List ℤ)
     → ((k : ℕ) → k < 16 → has_bit k (bit_and d e) ≡ true → get_or out k (pos 0) ≡ operation_result o (get_or xs k (pos 0)) (get_or ys k (pos 0)))
     → field_of (bit_and d e) out ≡ pointwise o (field_of d xs) (field_of e ys)
 unfolding field_of
@@ -72,39 +72,36 @@ pub faults-shared : (d e : ℕ) (xs ys : List ℤ) → faults_in div (field_of d
 unfolding field_of members
 faults-shared d e xs ys = faults-those d e xs ys 16 0
 
-faultless-at : (o : Operator) → ((y : ℤ) → faults o y ≡ false) → (p q : Option ℤ) → faults_at o p q ≡ false
+faultless-at : (o : number.Operator) → ((y : ℤ) → faults o y ≡ false) → (p q : Option ℤ) → faults_at o p q ≡ false
 faultless-at o h none q = refl
 faultless-at o h (some x) none = refl
 faultless-at o h (some x) (some y) = h y
 
-pub faultless : (o : Operator) → ((y : ℤ) → faults o y ≡ false) → (f g : Field) → faults_in o f g ≡ false
+pub faultless : (o : number.Operator) → ((y : ℤ) → faults o y ≡ false) → (f g : Field) → faults_in o f g ≡ false
 unfolding faults_in
 faultless o h [] g = refl
 faultless o h (p ∷ f) [] = refl
 faultless o h (p ∷ f) (q ∷ g) = rw (faultless-at o h p q) (faultless o h f g)
 
--- ---- a walk over a domain
+-- the operator of the code on two fields: only division faults
+pub faultless_operator : (o : Operator) → (o ≡ Over → ⊥) → (y : ℤ) → faults (named o) y ≡ false
+unfolding faults
+faultless_operator o n y = grind arith
 
-pub zero-none : (d : ℕ) (ys : List ℤ) → members d ≡ [] → any_zero (members d) ys ≡ false
-unfolding any_zero
-zero-none d ys e = rw e
+pub faults_over : (o : Operator) (d e : ℕ) (xs ys : List ℤ) → o ≡ Over → faults_in (named o) (field_of d xs) (field_of e ys) ≡ any_zero (members (bit_and d e)) ys
+faults_over o d e xs ys q = rw q (faults-shared d e xs ys)
 
-module _ (d r k j : ℕ) (q : k ≡ j) (e : members d ≡ j ∷ members r) where
-  zero-next : (ys : List ℤ) → any_zero (members d) ys ≡ eq_z (get_or ys k (pos 0)) (pos 0) || any_zero (members r) ys
-  unfolding any_zero
-  zero-next ys = rw (q, e)
+pub faults_else : (o : Operator) (f g : Field) → (o ≡ Over → ⊥) → faults_in (named o) f g ≡ false
+faults_else o f g n = faultless (named o) (faultless_operator o n) f g
 
-  pub zero-found : (ys : List ℤ) → get_or ys k (pos 0) ≡ pos 0 → any_zero (members d) ys ≡ true
-  zero-found ys z = zero-next ys ∙ rw (eq_z-yes (get_or ys k (pos 0)) (pos 0) z)
+pub field_of_shared : (o : number.Operator) (d e b : ℕ) (xs ys out : List ℤ) → b ≡ bit_and d e
+    → ((k : ℕ) → k < 16 → has_bit k b ≡ true → get_or out k (pos 0) ≡ operation_result o (get_or xs k (pos 0)) (get_or ys k (pos 0)))
+    → field_of b out ≡ pointwise o (field_of d xs) (field_of e ys)
+field_of_shared o d e b xs ys out q h = rw q (field_shared o d e xs ys out (rw q at h))
 
-  pub zero-not : (ys : List ℤ) → (get_or ys k (pos 0) ≡ pos 0 → ⊥) → any_zero (members d) ys ≡ any_zero (members r) ys
-  zero-not ys z = zero-next ys ∙ rw (eq_z-no (get_or ys k (pos 0)) (pos 0) z)
+pub ruleset fields = (faults_over, faults_else, field_of_shared)
 
-  pub no_zero : (ys : List ℤ) → any_zero (members d) ys ≡ false → get_or ys k (pos 0) ≡ pos 0 → ⊥
-  no_zero ys f z = false≢true (sym f ∙ zero-found ys z)
-
-  pub no-zero-after : (ys : List ℤ) → any_zero (members d) ys ≡ false → any_zero (members r) ys ≡ false
-  no-zero-after ys f = sym (zero-not ys (no_zero ys f)) ∙ f
+-- ---- a walk that divides: d is what is left before a turn at k, r after it
 
 abbrev pub quotient : List ℤ → List ℤ → ℕ → ℤ
 quotient xs ys k = over (get_or xs k (pos 0)) (get_or ys k (pos 0))
@@ -113,38 +110,32 @@ quotient xs ys k = over (get_or xs k (pos 0)) (get_or ys k (pos 0))
 abbrev pub Walked : (ℕ → ℤ) → ℕ → ℕ → List ℤ → Type 0
 Walked f dom rest out = (length out ≡ 16) × ((i : ℕ) → i < 16 → has_bit i dom ≡ true → among i (members rest) ≡ false → get_or out i (pos 0) ≡ f i)
 
-pub walked_none : (f : ℕ → ℤ) (dom : ℕ) (out : List ℤ) → length out ≡ 16 → Walked f dom dom out
-walked_none f dom out e = (
+pub walked_none : (f : ℕ → ℤ) (dom left : ℕ) (out : List ℤ) → length out ≡ 16 → left ≡ dom → Walked f dom left out
+walked_none f dom left out e q = (
   e,
-  λ i h b n. absurd (false≢true (sym n ∙ bit-members dom i h ∙ b)),
-)
-
-walked_at : (f : ℕ → ℤ) (dom d r k j : ℕ) (out : List ℤ) (v : ℤ) → k ≡ j → members d ≡ j ∷ members r → k < 16 → v ≡ f k → Walked f dom d out
-    → (i : ℕ) → i < 16 → has_bit i dom ≡ true → among i (members r) ≡ false → (t : Bool) → eqb i k ≡ t → get_or (set out k v) i (pos 0) ≡ f i
-unfolding among
-walked_at f dom d r k j out v q e h w p i b m n true t =
-    rw (eqb-true i k t) (get_or-set_same out k v (pos 0) (rw p.0 h) ∙ w)
-walked_at f dom d r k j out v q e h w p i b m n false t =
-    get_or-set_other out k i v (pos 0) (eqb-false i k t) ∙ p.1 i b m (rw (e, ← q, t) n)
-
-pub walked_more : (f : ℕ → ℤ) (dom d r k j : ℕ) (out : List ℤ) (v : ℤ) → k ≡ j → members d ≡ j ∷ members r → k < 16 → v ≡ f k → Walked f dom d out → Walked f dom r (set out k v)
-walked_more f dom d r k j out v q e h w p = (
-  length-set out k v ∙ p.0,
-  λ i b m n. walked_at f dom d r k j out v q e h w p i b m n (eqb i k) refl,
+  λ i h b n. absurd (false≢true (sym n ∙ ap (λ (d : ℕ). among i (members d)) q ∙ bit-members dom i h ∙ b)),
 )
 
 pub walked_all : (f : ℕ → ℤ) (dom d : ℕ) (out : List ℤ) → members d ≡ [] → Walked f dom d out → (i : ℕ) → i < 16 → has_bit i dom ≡ true → get_or out i (pos 0) ≡ f i
 unfolding among
 walked_all f dom d out e p i h b = p.1 i h b (ap (among i) e)
 
--- ---- cells filled from the first up
-abbrev pub Filled : (ℕ → ℤ) → ℕ → List ℤ → Type 0
-Filled f k out = (length out ≡ 16) × ((j : ℕ) → j < k → get_or out j (pos 0) ≡ f j)
+module _ (d r k : ℕ) (e : members d ≡ k ∷ members r) where
+  zero-next : (ys : List ℤ) → any_zero (members d) ys ≡ eq_z (get_or ys k (pos 0)) (pos 0) || any_zero (members r) ys
+  unfolding any_zero
+  zero-next ys = rw e
 
-pub filled_more : (f : ℕ → ℤ) (k : ℕ) (out : List ℤ) (v : ℤ) → k < 16 → Filled f k out → v ≡ f k → Filled f (k + 1) (set out k v)
-filled_more f k out v b p e = (
-  length-set out k v ∙ p.0,
-  below_more (λ (j : ℕ). get_or (set out k v) j (pos 0) ≡ f j) k
-      (λ j h. get_or-set_other out k j v (pos 0) (λ q. lt_irrefl k (rw q at h)) ∙ p.1 j h)
-      (get_or-set_same out k v (pos 0) (rw p.0 b) ∙ e),
-)
+  pub no_zero : (ys : List ℤ) → any_zero (members d) ys ≡ false → get_or ys k (pos 0) ≡ pos 0 → ⊥
+  no_zero ys f z = false≢true (sym f ∙ zero-next ys ∙ rw (eq_z-yes (get_or ys k (pos 0)) (pos 0) z))
+
+  pub no-zero-after : (ys : List ℤ) → any_zero (members d) ys ≡ false → any_zero (members r) ys ≡ false
+  no-zero-after ys f = sym (zero-next ys ∙ rw (eq_z-no (get_or ys k (pos 0)) (pos 0) (no_zero ys f))) ∙ f
+
+  module _ (f : ℕ → ℤ) (dom : ℕ) (out : List ℤ) (v : ℤ) (w : v ≡ f k) (h : k < 16) (p : Walked f dom d out) where
+    walked_at : (i : ℕ) → i < 16 → has_bit i dom ≡ true → among i (members r) ≡ false → (t : Bool) → eqb i k ≡ t → get_or (set out k v) i (pos 0) ≡ f i
+    unfolding among
+    walked_at i b m n true t = rw (eqb-true i k t) (get_or-set_same out k v (pos 0) (rw p.0 h) ∙ w)
+    walked_at i b m n false t = get_or-set_other out k i v (pos 0) (eqb-false i k t) ∙ p.1 i b m (rw (e, t) n)
+
+    pub walked_more : Walked f dom r (set out k v)
+    walked_more = (length-set out k v ∙ p.0, λ i b m n. walked_at i b m n (eqb i k) refl)

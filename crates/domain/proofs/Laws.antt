@@ -9,7 +9,7 @@ use native.Mathlib.Nat.{zero-add, add-zero, add-suc, suc-add, add_comm, le_of_su
 use native.Mathlib.Numerals.{add-one}
 use native.Mathlib.Omega.{arith}
 use lib.Bits.{bit_and, and_shr, and_mod, block_odd}
-use lib.Count.{ones}
+use lib.Count.{ones, count_trailing_zeros}
 use lib.Dec.{eqb}
 use lib.IntN.{ℤ, pos}
 use lib.ListN.{length, get_or, length-map}
@@ -23,7 +23,7 @@ use Rattle.field.specs.Field.{from}
 use Rattle.field.proofs.Each.{from-same}
 use Rattle.domain.specs.Held.{cell_of, field_of}
 use Rattle.domain.specs.Members.{before, those, members, places, bit, built}
-use Rattle.domain.proofs.Walk.{by-halves, devs-length}
+use Rattle.domain.proofs.Walk.{by-halves, devs-length, lowest-in, lowest-low, members-next, shifted}
 
 pub members-none : members 0 ≡ []
 unfolding members those
@@ -185,22 +185,6 @@ shared-domain k d e =
     ∙ ap (λ (n : ℕ). eqb n 1) (and_mod (d / 2 ^ k) (e / 2 ^ k) 1)
     ∙ and-bits (d / 2 ^ k % 2) (e / 2 ^ k % 2) (parity (d / 2 ^ k % 2) (omega arith)) (parity (e / 2 ^ k % 2) (omega arith))
 
--- ---- a walk by `lowest` and `rest` while `size`, how many members are left, is above 0
-
-pub some_left : (d n : ℕ) → n ≡ length (members d) → 0 < n → 0 < d
-some_left zero n e h = let z : n ≡ 0 = e ∙ ap length members-none in omega arith
-some_left (suc d) n e h = zero-lt-suc d
-
-empty : (l : List ℕ) → length l ≡ 0 → l ≡ []
-empty [] e = refl
-empty (x ∷ l) e = let z : ◌≡◌ {A = ℕ} 0 1 = omega arith in cc
-
-pub none_left : (d n : ℕ) → n ≡ length (members d) → n ≡ 0 → members d ≡ []
-none_left d n e z = empty (members d) (sym e ∙ z)
-
-pub left-next : (d r j : ℕ) → members d ≡ j ∷ members r → (n : ℕ) → n ≡ length (members d) → n - 1 ≡ length (members r)
-left-next d r j e n p = let s : n ≡ suc (length (members r)) = p ∙ ap length e in omega arith
-
 -- ---- the turns of a walk while a device is left: those taken and those to come are as many as there are members
 
 before-few : (t : Bool) (k n : ℕ) (l : List ℕ) → length l ≤ n → length (before t k l) ≤ suc n
@@ -232,3 +216,18 @@ module _ (dom d turns : ℕ) (h : Turned dom d turns) where
       let z : length (members d) ≡ 0 = ap length e in
       let t : turns ≡ length (members dom) = omega arith in
       t ∙ sym (ap length (places-members dom cells) ∙ length-map (members dom) (λ (k : ℕ). get_or cells k (pos 0)))
+
+-- ---- a turn of a walk: the lowest of those left, and the rest
+pub lowest_under : (d : ℕ) → d < 65536 → (d ≡ 0 → ⊥) → 1 * 2 ^ count_trailing_zeros 16 d % 65536 ≤ d
+lowest_under d q n = omega (arith, shifted d (omega arith) q, lowest-low d (omega arith) q)
+
+pub rest_under : (d : ℕ) → d < 65536 → (d ≡ 0 → ⊥) → d - 1 * 2 ^ count_trailing_zeros 16 d % 65536 < d
+rest_under d q n = omega (arith, shifted d (omega arith) q, pow_pos (count_trailing_zeros 16 d), lowest-low d (omega arith) q)
+
+pub next_of : (d : ℕ) → d < 65536 → (d ≡ 0 → ⊥) → members d ≡ count_trailing_zeros 16 d ∷ members (d - 1 * 2 ^ count_trailing_zeros 16 d % 65536)
+next_of d q n = members-next d (omega arith) q ∙ ap (λ (m : ℕ). count_trailing_zeros 16 d ∷ members (d - m)) (sym (shifted d (omega arith) q))
+
+pub lowest_of : (d : ℕ) → d < 65536 → (d ≡ 0 → ⊥) → count_trailing_zeros 16 d < 16
+lowest_of d q n = lowest-in d (omega arith) q
+
+pub ruleset walks = (none_in, size-members, lowest_of, lowest_under, rest_under, next_of)

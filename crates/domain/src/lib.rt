@@ -1,91 +1,143 @@
 // Fields held as sixteen numbers beside their domain, combined pointwise, and a domain walked from its lowest device up.
 #![tactic(auto)]
 
-ghost use Rattle.std.specs.Prelude.{◌≡◌, true, false, ◌∷◌, ℕ, ◌<◌, length, get_or, replicate, pos};
+ghost use Rattle.std.specs.Prelude.{◌≡◌, ◌≢◌, true, false, ◌∷◌, ℕ, ◌<◌, length, get_or, replicate, pos, bit_and, IfSome, IfNone};
 ghost use Rattle.std.proofs.Math.Option.{none};
 ghost use Rattle.std.specs.Int.Count.{count_trailing_zeros};
+ghost use Rattle.std.specs.Iterator.{item_count};
+ghost use Rattle.domain.specs.Walk.{Takes};
 ghost use Rattle.bits.specs.Bits.{has_bit};
-ghost use Rattle.number.specs.Number.{operator_of, operation_result, plus, over};
+ghost use Rattle.number.specs.Number.{operation_result, over};
 ghost use Rattle.field.specs.Field.{everywhere, pointwise, faults_in};
-ghost use Rattle.domain.specs.Held.{field_of, held};
+ghost use Rattle.arith.specs.Named.{named};
+ghost use Rattle.domain.specs.Held.{held};
 ghost use Rattle.domain.specs.Members.{members, any_zero};
 
-use arith::{DIVISION, SUM};
+use arith::Operator;
+use layout::DEVICES;
 
-// A domain: bit k says whether device k + 1 is in it. A walk takes the lowest device and goes on with the rest while a device is left.
-#[derive(Clone, Copy)]
+// A domain: bit k says whether device k + 1 is in it. As an iterator it gives its devices, counted from 0, lowest first.
+#[derive(Clone, Copy, Drop)]
 pub struct Domain {
     pub bits: u16,
 }
 
 impl Domain {
-    // How many devices there are.
+    // How many devices there are. Stays (a): "ones give its size" is a fixed form (docs/DECISIONS.md, on code places).
+    #[tactic(auto, using(crate::proofs::Laws::walks))]
     pub fn size(self) -> u32
         ensures { result ≡ length (members self.bits) }
     {
-        u16::count_ones(self.bits)
+        self.bits.count_ones()
     }
 
-    // The lowest device, counted from 0.
-    pub fn lowest(self) -> usize
-        requires { 0 < self.bits }
-        ensures { (result < 16) × (result ≡ count_trailing_zeros 16 self.bits) }
+    // The devices that both have.
+    pub fn shared(self, other: Domain) -> Domain
+        ensures { result.bits ≡ bit_and self.bits other.bits }
     {
-        u16::trailing_zeros(self.bits) as usize
+        Domain {
+            bits: self.bits & other.bits,
+        }
     }
 
-    // The rest without the lowest device.
+    // The rest without the lowest device. Stays (b): apart from `split_lowest`, so that the compiler makes of it `bits & (bits - 1)`; in one function folds took half as long again.
+    #[tactic(auto, using(crate::proofs::Laws::walks))]
     pub fn rest(self) -> Domain
         requires { 0 < self.bits }
         ensures { (result.bits < self.bits) × (members self.bits ≡ count_trailing_zeros 16 self.bits ∷ members result.bits) }
     {
-        let one: u16 = 1;
         Domain {
-            bits: self.bits - (one << u16::trailing_zeros(self.bits)),
+            bits: self.bits - (1 << self.bits.trailing_zeros()),
         }
+    }
+
+    // The lowest device, counted from 0, and the rest without it.
+    #[tactic(auto, using(crate::proofs::Laws::walks))]
+    pub fn split_lowest(self) -> Option<(usize, Domain)>
+        ensures none { IfNone result (self.bits ≡ 0) }
+        ensures lowest { IfSome result (λ r. (r.0 < 16) × (r.0 ≡ count_trailing_zeros 16 self.bits)) }
+        ensures rest { IfSome result (λ r. (r.1.bits < self.bits) × (members self.bits ≡ r.0 ∷ members r.1.bits)) }
+    {
+        if self.bits == 0 {
+            return None;
+        }
+        Some((self.bits.trailing_zeros() as usize, self.rest()))
+    }
+}
+
+impl Iterator for Domain {
+    type Item = usize;
+
+    ghost next_gives = { Takes };
+
+    ghost remaining = { item_count (λ d. members d.bits) };
+
+    #[tactic(auto, using(crate::proofs::Laws::walks))]
+    fn next(&mut self) -> Option<usize> {
+        let (lowest, rest) = self.split_lowest()?;
+        *self = rest;
+        Some(lowest)
     }
 }
 
 // A field: cells[k] is the number of device k + 1 where that is in its domain.
 #[derive(Drop)]
 pub struct Held {
-    pub cells: [i32; 16],
+    pub cells: [i32; DEVICES],
     pub dom: Domain,
 }
 
-// A number at each device.
-pub fn spread(v: i32) -> Held
-    ensures { held result ≡ everywhere v }
-{
-    let cells = [v; 16];
-    Held {
-        cells: cells,
-        dom: Domain { bits: 65535 },
+impl Held {
+    // A number at each device.
+    #[tactic(auto, using(arith::proofs::Signs::reads), unfolding(crate::specs::Held::field_of, field::specs::Field::from))]
+    pub fn spread(v: i32) -> Held
+        ensures { held result ≡ everywhere v }
+    {
+        Held {
+            cells: [v; DEVICES],
+            dom: Domain { bits: u16::MAX },
+        }
+    }
+
+    // The field of no device.
+    #[tactic(auto, using(arith::proofs::Signs::reads), unfolding(crate::specs::Held::field_of, field::specs::Field::from))]
+    pub fn no_field() -> Held
+        ensures { held result ≡ replicate 16 none }
+    {
+        Held {
+            cells: [0; DEVICES],
+            dom: Domain { bits: 0 },
+        }
+    }
+
+    // Whether the devices that two fields share have a divisor 0.
+    #[tactic(auto, using(crate::proofs::Fields::fields))]
+    pub fn faults_in(&self, o: Operator, right: &Held) -> bool
+        ensures { result ≡ faults_in (named o) (held self.now) (held right.now) }
+    {
+        o == Operator::Over && zero_in(self.dom.shared(right.dom), &right.cells)
+    }
+
+    // An operator on two fields: at the devices that they share.
+    #[tactic(auto, using(crate::proofs::Fields::fields))]
+    pub fn shared(&self, o: Operator, right: &Held) -> Held
+        requires { faults_in (named o) (held self.now) (held right.now) ≡ false }
+        ensures { held result ≡ pointwise (named o) (held self.now) (held right.now) }
+    {
+        let dom = self.dom.shared(right.dom);
+        Held {
+            cells: lanes(o, dom, &self.cells, &right.cells),
+            dom,
+        }
     }
 }
 
-// The field of no device.
-pub fn no_field() -> Held
-    ensures { held result ≡ replicate 16 none }
-{
-    let z: i32 = 0;
-    let cells = [z; 16];
-    Held {
-        cells: cells,
-        dom: Domain { bits: 0 },
-    }
-}
-
-// Whether a cell in the domain is 0. The walk is as long as the size says, which goes down with each device.
-fn zero_in(dom: Domain, ys: &[i32; 16]) -> bool
+// Whether a cell in the domain is 0.
+#[tactic(auto, using(arith::proofs::Signs::reads), unfolding(crate::specs::Members::any_zero))]
+fn zero_in(dom: Domain, ys: &[i32; DEVICES]) -> bool
     ensures { result ≡ any_zero (members dom.bits) ys.now }
 {
-    let mut left = dom;
-    let mut size = dom.size();
-    while size > 0 {
-        let k = left.lowest();
-        left = left.rest();
-        size -= 1;
+    for k in dom {
         if ys[k] == 0 {
             return true;
         }
@@ -93,95 +145,47 @@ fn zero_in(dom: Domain, ys: &[i32; 16]) -> bool
     false
 }
 
-// Whether the devices that two fields share have a divisor 0. A field is lent as its domain and its cells.
-pub fn faults_in<'a>(
-    o: u8,
-    left: Domain,
-    xs: &'a [i32; 16],
-    right: Domain,
-    ys: &'a [i32; 16],
-) -> bool
-    ensures { result ≡ faults_in (operator_of o) (field_of left.bits xs.now) (field_of right.bits ys.now) }
-{
-    if o == DIVISION {
-        let common = left.bits & right.bits;
-        return zero_in(Domain { bits: common }, ys);
-    }
-    false
-}
-
 // The quotients in the domain, where no divisor is 0. The other cells are 0.
-fn each_div(dom: Domain, xs: &[i32; 16], ys: &[i32; 16]) -> [i32; 16]
+fn each_div(dom: Domain, xs: &[i32; DEVICES], ys: &[i32; DEVICES]) -> [i32; DEVICES]
     requires { any_zero (members dom.bits) ys.now ≡ false }
-    ensures { ((k : ℕ) → k < 16 → has_bit k dom.bits ≡ true → get_or result k (pos 0) ≡ over (get_or xs.now k (pos 0)) (get_or ys.now k (pos 0))) }
+    ensures { (k : ℕ) → k < 16 → has_bit k dom.bits ≡ true → get_or result k (pos 0) ≡ over (get_or xs.now k (pos 0)) (get_or ys.now k (pos 0)) }
 {
-    let z: i32 = 0;
-    let mut out = [z; 16];
-    let mut left = dom;
-    while left.bits != 0 {
-        let k = left.lowest();
-        left = left.rest();
-        let v = arith::div(xs[k], ys[k]);
-        out[k] = v;
+    let mut out = [0; DEVICES];
+    for k in dom {
+        out[k] = arith::div(xs[k], ys[k]);
     }
     out
 }
 
-// Sums on all sixteen cells, in the domain or not: so the loop has no test. The most common operator has a loop of its own.
-fn each_sum(xs: &[i32; 16], ys: &[i32; 16]) -> [i32; 16]
-    ensures { ((k : ℕ) → k < 16 → get_or result k (pos 0) ≡ plus (get_or xs.now k (pos 0)) (get_or ys.now k (pos 0))) }
+// What `of` gives on all sixteen cells, in the domain or not: so the loop has no test.
+fn each<F: Fn(i32, i32) -> i32>(of: F, xs: &[i32; DEVICES], ys: &[i32; DEVICES]) -> [i32; DEVICES]
+    requires { F.IsAlwaysCallable of }
+    ensures { (k : ℕ) → k < 16 → F.post of (get_or xs.now k (pos 0)) (get_or ys.now k (pos 0)) (get_or result k (pos 0)) }
 {
-    let z: i32 = 0;
-    let mut out = [z; 16];
-    let mut i: usize = 0;
-    while i < 16 {
-        let v = arith::add(xs[i], ys[i]);
-        out[i] = v;
-        i += 1;
+    let mut out = [0; DEVICES];
+    for k in 0..DEVICES {
+        out[k] = of(xs[k], ys[k]);
     }
     out
 }
 
-// Any other operator, likewise.
-fn each(o: u8, xs: &[i32; 16], ys: &[i32; 16]) -> [i32; 16]
-    requires { o ≡ 3 → ⊥ }
-    ensures { ((k : ℕ) → k < 16 → get_or result k (pos 0) ≡ operation_result (operator_of o) (get_or xs.now k (pos 0)) (get_or ys.now k (pos 0))) }
+// The cells of an operator on two fields that share the devices of dom. Those that are no comparison have a loop of their own, with no switch a cell.
+#[tactic(auto, using(arith::proofs::Signs::reads), unfolding(number::specs::Number::operation_result))]
+fn lanes(o: Operator, dom: Domain, xs: &[i32; DEVICES], ys: &[i32; DEVICES]) -> [i32; DEVICES]
+    requires { o ≡ Operator.Over → any_zero (members dom.bits) ys.now ≡ false }
+    ensures { (k : ℕ) → k < 16 → has_bit k dom.bits ≡ true → get_or result k (pos 0) ≡ operation_result (named o) (get_or xs.now k (pos 0)) (get_or ys.now k (pos 0)) }
 {
-    let z: i32 = 0;
-    let mut out = [z; 16];
-    let mut k: usize = 0;
-    while k < 16 {
-        let v = arith::operate(o, xs[k], ys[k]);
-        out[k] = v;
-        k += 1;
-    }
-    out
-}
-
-// The cells of an operator on two fields that share the devices of dom.
-fn lanes<'a>(o: u8, dom: Domain, xs: &'a [i32; 16], ys: &'a [i32; 16]) -> [i32; 16]
-    requires { o ≡ 3 → any_zero (members dom.bits) ys.now ≡ false }
-    ensures { ((k : ℕ) → k < 16 → has_bit k dom.bits ≡ true → get_or result k (pos 0) ≡ operation_result (operator_of o) (get_or xs.now k (pos 0)) (get_or ys.now k (pos 0))) }
-{
-    if o == DIVISION {
-        return each_div(dom, xs, ys);
-    }
-    if o == SUM {
-        return each_sum(xs, ys);
-    }
-    each(o, xs, ys)
-}
-
-// An operator on two fields: at the devices that they share.
-pub fn shared<'a>(o: u8, left: Domain, xs: &'a [i32; 16], right: Domain, ys: &'a [i32; 16]) -> Held
-    requires { faults_in (operator_of o) (field_of left.bits xs.now) (field_of right.bits ys.now) ≡ false }
-    ensures { held result ≡ pointwise (operator_of o) (field_of left.bits xs.now) (field_of right.bits ys.now) }
-{
-    let bits = left.bits & right.bits;
-    let dom = Domain { bits: bits };
-    let cells = lanes(o, dom, xs, ys);
-    Held {
-        cells: cells,
-        dom: dom,
+    match o {
+        Operator::Over => each_div(dom, xs, ys),
+        Operator::Plus => each(arith::add, xs, ys),
+        Operator::Minus => each(arith::sub, xs, ys),
+        Operator::Times => each(arith::mul, xs, ys),
+        _ => {
+            let operate = |x: i32, y: i32| -> i32
+                requires { o ≢ Operator.Over }
+                ensures { result ≡ operation_result (named o) x y }
+            { o.operate(x, y) };
+            each(operate, xs, ys)
+        }
     }
 }

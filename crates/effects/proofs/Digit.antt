@@ -1,30 +1,42 @@
 -- A binary digit set, as code computes it. Assumes nothing.
-use mathlib.Core.Path.{◌≡◌, sym, ◌∙◌}
+use mathlib.Core.Path.{◌≡◌, refl, sym, ap, ◌∙◌}
+use mathlib.Core.Logic.{◌≢◌}
 use mathlib.Core.Bool.{true, true≢false}
 use Prim.Native.Nat.{ℕ, zero, suc, ◌+◌, ◌*◌, ◌/◌, ◌%◌, ◌^◌, ◌<◌, ◌≤◌}
+use native.Mathlib.Decide.{ℕ_discrete}
 use native.Mathlib.Omega.{arith}
-use native.Mathlib.Nat.{pow-le-pow_right, mul-le-mul_right, pow-zero, pow-suc, div-one, div-div-eq-div-mul, mul_comm}
+use native.Mathlib.Nat.{pow-suc}
+use lib.Bits.{bit_and}
 use lib.Dec.{T}
 use lib.IntN.{ℤ, pos, negsuc, nat_abs}
 use lib.Signed.{le_z, non_neg, mag}
+use mir.Syntax.{w32}
+use Rattle.std.specs.Int.{bit_at, bit_not}
+use Rattle.std.specs.Int.RustNames.{bit_or}
+use Rattle.std.proofs.lemmas.Nat.{and_le_l}
+use Rattle.std.proofs.lemmas.Nat.Bits.{bit_at_lowest, bit_at-suc, bit_at_set_same, bit_at_set_other, bit_at_clear_same, bit_at_clear_other, same_from_bits, same_from_bits_below}
 use Rattle.event.specs.Step.{digit_set}
 
--- the new digit comes, the old one goes
-abbrev digit : ℕ → ℕ → ℕ
-digit zero x = x % 2
-digit (suc s) x = digit s (x / 2)
-
-set_sum : (s v x : ℕ) → digit_set s v x + digit s x * 2 ^ s ≡ x + v % 2 * 2 ^ s
+-- ---- the digits of the number with its digit s set
+digit-same : (s v x : ℕ) → v ≤ 1 → bit_at (digit_set s v x) s ≡ v
 unfolding digit_set
-set_sum zero v x = omega (arith, pow-zero 2)
-set_sum (suc s) v x = rw (pow-suc 2 s) (omega (arith, set_sum s v (x / 2)))
+digit-same zero v x h = bit_at_lowest (x / 2 * 2 + v % 2) ∙ omega arith
+digit-same (suc s) v x h =
+    let e : (digit_set s v (x / 2) * 2 + x % 2) / 2 ≡ digit_set s v (x / 2) = omega arith in
+    bit_at-suc (digit_set s v (x / 2) * 2 + x % 2) s ∙ rw e (digit-same s v (x / 2) h)
 
-digit-is : (s x : ℕ) → digit s x ≡ x / 2 ^ s % 2
-digit-is zero x = rw (div-one x)
-digit-is (suc s) x = digit-is s (x / 2) ∙ rw (div-div-eq-div-mul x 2 (2 ^ s), mul_comm 2 (2 ^ s), ← (pow-suc 2 s))
-
-set-digit : (s v x : ℕ) → digit_set s v x + x / 2 ^ s % 2 * 2 ^ s ≡ x + v % 2 * 2 ^ s
-set-digit s v x = rw (← (digit-is s x)) (set_sum s v x)
+digit-other : (s v x i : ℕ) → i ≢ s → bit_at (digit_set s v x) i ≡ bit_at x i
+unfolding digit_set
+digit-other zero v x zero n = absurd (n refl)
+digit-other zero v x (suc i) n =
+    let e : (x / 2 * 2 + v % 2) / 2 ≡ x / 2 = omega arith in
+    bit_at-suc (x / 2 * 2 + v % 2) i ∙ rw e (sym (bit_at-suc x i))
+digit-other (suc s) v x zero n =
+    let e : (digit_set s v (x / 2) * 2 + x % 2) % 2 ≡ x % 2 = omega arith in
+    bit_at_lowest (digit_set s v (x / 2) * 2 + x % 2) ∙ e ∙ sym (bit_at_lowest x)
+digit-other (suc s) v x (suc i) n =
+    let e : (digit_set s v (x / 2) * 2 + x % 2) / 2 ≡ digit_set s v (x / 2) = omega arith in
+    bit_at-suc (digit_set s v (x / 2) * 2 + x % 2) i ∙ rw e (digit-other s v (x / 2) i (λ q. n (ap suc q)) ∙ sym (bit_at-suc x i))
 
 pub set_below : (k s v x : ℕ) → s < k → x < 2 ^ k → digit_set s v x < 2 ^ k
 unfolding digit_set
@@ -32,20 +44,22 @@ set_below zero s v x h l = absurd (omega arith)
 set_below (suc k) zero v x h l = omega (arith, pow-suc 2 k)
 set_below (suc k) (suc s) v x h l = omega (arith, pow-suc 2 k, set_below k s v (x / 2) (omega arith) (omega (arith, pow-suc 2 k)))
 
-pub at_most : (v b : ℕ) → v ≤ 1 → v * b ≤ b
-at_most v b h = omega (arith, mul-le-mul_right b h)
+-- ---- as code sets and clears it
+module _ (s x : ℕ) (h : s ≤ 15) (k : x < 2 ^ 31) where
+  pub set-bit : bit_or x (1 * 2 ^ s % 2 ^ 32) ≡ digit_set s 1 x
+  set-bit = same_from_bits _ _ (λ i. go i (ℕ_discrete i s))
+    where
+      go : (i : ℕ) → Dec (i ≡ s) → bit_at (bit_or x (1 * 2 ^ s % 2 ^ 32)) i ≡ bit_at (digit_set s 1 x) i
+      go i (yes e) = rw e (bit_at_set_same w32 x s (omega arith) ∙ sym (digit-same s 1 x (omega arith)))
+      go i (no n) = bit_at_set_other w32 x s (omega arith) i n ∙ sym (digit-other s 1 x i n)
 
--- ---- the sensors' digits
-module _ (s v x : ℕ) (h : s ≤ 15) (k : v ≤ 1) where
-  pub bit-top : 2 ^ s ≤ 32768
-  bit-top = pow-le-pow_right {n = 2} (omega arith) h
-
-  -- as code shifts
-  pub bit_is : 1 * 2 ^ s % 4294967296 ≡ 2 ^ s
-  bit_is = omega (arith, bit-top)
-
-  pub set_is : digit_set s v x + x / 2 ^ s % 2 * 2 ^ s ≡ x + v * 2 ^ s
-  set_is = let e : v % 2 ≡ v = omega arith in rw e at (set-digit s v x)
+  pub clear-bit : bit_and x (bit_not w32 (1 * 2 ^ s % 2 ^ 32)) ≡ digit_set s 0 x
+  clear-bit =
+      same_from_bits_below 32 _ _ (omega (arith, and_le_l x (bit_not w32 (1 * 2 ^ s % 2 ^ 32)))) (omega (arith, set_below 31 s 0 x (omega arith) k)) (λ i l. go i l (ℕ_discrete i s))
+    where
+      go : (i : ℕ) → i < 32 → Dec (i ≡ s) → bit_at (bit_and x (bit_not w32 (1 * 2 ^ s % 2 ^ 32))) i ≡ bit_at (digit_set s 0 x) i
+      go i l (yes e) = rw e (bit_at_clear_same w32 x s (omega arith) ∙ sym (digit-same s 0 x (omega arith)))
+      go i l (no n) = bit_at_clear_other w32 x s (omega arith) i l n ∙ sym (digit-other s 0 x i n)
 
 -- ---- the sensors' cell, which is not negative
 pub record Plain (z : ℤ) : Type 0 where

@@ -1,5 +1,5 @@
 -- What `fire` asks of the rows of messages: a sound network has it, and every event keeps it. Assumes nothing.
-use mathlib.Core.Path.{◌≡◌, refl, sym, ap, ◌∙◌}
+use mathlib.Core.Path.{◌≡◌, refl, sym, ◌∙◌}
 use mathlib.Core.Bool.{Bool, true, false, cond, ◌&&◌, or-true, or-false}
 use mathlib.Core.List.{List, [], ◌∷◌, map}
 use Prim.Native.Nat.{ℕ, zero, suc, ◌+◌, ◌-◌, ◌*◌, ◌/◌, ◌%◌, ◌≤◌, ◌<◌}
@@ -44,7 +44,7 @@ idle-message here s b = go (eq_z (get_or here (heard_at b + 0) (pos 0)) mark)
   where
     go : (t : Bool) → IdleRow (cond t no_message (pos 1 ∷ drop 1 s.sent))
     go true q = refl
-    go false q = let z : ◌≡◌ {A = ℕ} 1 0 = cc in absurd (omega arith)
+    go false q = absurd (cc)
 
 -- ---- every event keeps it
 -- two rows of messages that share a cell are one

@@ -78,7 +78,7 @@ lit-kept main n e l h = go (eqb (refusal n e) 0) refl
 -- ---- a sound network has it
 both-none : (b : Bool) (x : Option ℕ) (k : ℕ) → cond b x (some k) ≡ none → (b ≡ true) × (x ≡ none)
 both-none true x k q = (refl, q)
-both-none false x k q = let z : ◌≡◌ {A = ℕ} 0 1 = cc in absurd (omega arith)
+both-none false x k q = absurd (cc)
 
 first-none : (ok : ℕ → ℤ → Bool) (j : ℕ) (l : List ℤ) (i : ℕ) (d : ℤ) → first_not ok j l ≡ none → i < length l → ok (j + i) (get_or l i d) ≡ true
 unfolding first_not
@@ -90,7 +90,7 @@ first-none ok j (z ∷ l) (suc i) d q h =
 
 placed-none : (o : Option ℕ) (at : ℕ) (next : Option ℕ) → placed o at next ≡ none → (o ≡ none) × (next ≡ none)
 placed-none none at next q = (refl, q)
-placed-none (some j) at next q = let z : ◌≡◌ {A = ℕ} 0 1 = cc in absurd (omega arith)
+placed-none (some j) at next q = absurd (cc)
 
 block_none : (a k : ℕ) (n : List ℤ) (i : ℕ) → lowest_unsound a k n ≡ none → i < k
     → first_not (cell_sound (a + i) (row n (i * block_size) block_size)) 0 (row n (i * block_size) block_size) ≡ none

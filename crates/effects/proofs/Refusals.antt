@@ -1,13 +1,11 @@
 -- An event that is refused and one that is not: what it does, from the tests. Assumes nothing.
-use mathlib.Core.Path.{◌≡◌, refl, ap, ◌∙◌}
+use mathlib.Core.Path.{◌≡◌, refl, sym}
 use mathlib.Core.Bool.{Bool, true, false, ◌&&◌}
 use mathlib.Core.List.{List, [], ◌∷◌}
-use Prim.Native.Nat.{ℕ}
+use Prim.Native.Nat.{ℕ, ◌<◌, ◌≤◌}
 use native.Mathlib.Omega.{arith}
 use lib.IntN.{ℤ, pos}
-use mir.Syntax.{w32}
-use mir.Val.{SFits, of_z, to_z}
-use mir.Facts.{to_z-of_z}
+use Rattle.std.proofs.Common.{Ok, Err}
 use borrow.Author.Tests.{ne_eqb, not-false}
 use Rattle.program.specs.Table.{first_of}
 use Rattle.program.specs.Tree.{Expr}
@@ -15,8 +13,34 @@ use Rattle.network.specs.Cells.{write}
 use Rattle.event.specs.Event.{Event, deliver, lose}
 use Rattle.event.specs.Step.{is_device, out_of_range, to_itself, nothing_pending, refusal, effect, plan}
 use Rattle.event.proofs.Devices.{Pair, pair_of}
-use Rattle.effects.specs.declared.Answer.{Answer}
-use Rattle.effects.specs.Does.{answer_of, Does}
+use Rattle.verdict.specs.declared.Reason.{Reason}
+use Rattle.verdict.specs.declared.Reason.TheVariants.{BadField, TooMany, OutOfRange, NotGiven, Taken, BadEnd, WrongSort, Misread, Misused}
+use Rattle.verdict.specs.declared.Reason.TheVariants.{TooCostly, Unsound, BadList, ShortSpace, BadItem, Itself, NothingPending, DividedByZero, BadFile, Outside, BadName}
+use Rattle.verdict.specs.Outcome.{number_of}
+use Rattle.effects.specs.Does.{Does}
+
+-- ---- no refusal has the number 0
+pub some_number : (r : Reason) → (0 < number_of r) × (number_of r ≤ 20)
+some_number BadField = (omega arith, omega arith)
+some_number TooMany = (omega arith, omega arith)
+some_number OutOfRange = (omega arith, omega arith)
+some_number NotGiven = (omega arith, omega arith)
+some_number Taken = (omega arith, omega arith)
+some_number BadEnd = (omega arith, omega arith)
+some_number WrongSort = (omega arith, omega arith)
+some_number Misread = (omega arith, omega arith)
+some_number Misused = (omega arith, omega arith)
+some_number TooCostly = (omega arith, omega arith)
+some_number Unsound = (omega arith, omega arith)
+some_number BadList = (omega arith, omega arith)
+some_number ShortSpace = (omega arith, omega arith)
+some_number BadItem = (omega arith, omega arith)
+some_number Itself = (omega arith, omega arith)
+some_number NothingPending = (omega arith, omega arith)
+some_number DividedByZero = (omega arith, omega arith)
+some_number BadFile = (omega arith, omega arith)
+some_number Outside = (omega arith, omega arith)
+some_number BadName = (omega arith, omega arith)
 
 -- ---- the rows of the refusal table
 module _ (n : List ℤ) (e : Event) where
@@ -37,20 +61,14 @@ module _ (n : List ℤ) (e : Event) where
   is-0 o t p = rw (o, t, p)
 
   -- the network stays, and the refusal is the answer
-  pub turned : (r : Answer) (k : ℕ) → refusal n e ≡ k → (k ≡ 0 → ⊥) → answer_of r ≡ (pos k, pos 0) → Does n e r n
+  pub turned : (r : Reason) → refusal n e ≡ number_of r → Does n e (Err r) n
   unfolding plan
-  turned r k p f q = λ main. record { network = rw (p, ne_eqb k 0 f); answer = rw (p, ne_eqb k 0 f) q }
-
-  -- the same of a refusal that a call gave
-  pub turned_by : (r : Answer) (code : ℤ) → SFits w32 code → code ≡ pos (refusal n e) → (of_z w32 code ≡ 0 → ⊥)
-      → answer_of r ≡ (to_z w32 (of_z w32 code), pos 0) → Does n e r n
-  turned_by r code s p f q = turned r (refusal n e) refl (λ z. f (ap (of_z w32) p ∙ z)) (q ∙ rw (to_z-of_z s, p))
+  turned r p = λ main. record { network = rw (p, ne_eqb (number_of r) 0 (λ z. omega (arith, some_number r))); answer = rw (p, ne_eqb (number_of r) 0 (λ z. omega (arith, some_number r))) }
 
   -- all is done
-  pub carried-out : (r : Answer) (m : List ℤ) → refusal n e ≡ 0 → ((main : Expr) → m ≡ write n (effect main n e).0)
-      → ((main : Expr) → answer_of r ≡ (effect main n e).1) → Does n e r m
+  pub carried-out : (m : List ℤ) → refusal n e ≡ 0 → ((main : Expr) → m ≡ write n (effect main n e).0) → ((main : Expr) → (effect main n e).1 ≡ (pos 0, pos 0)) → Does n e (Ok tt) m
   unfolding plan
-  carried-out r m p w q = λ main. record { network = rw p (w main); answer = rw p (q main) }
+  carried-out m p w q = λ main. record { network = rw p (w main); answer = rw p (sym (q main)) }
 
 -- an event that is not refused
 first-false : (o t p : Bool) → first_of ((o, 14) ∷ (t, 15) ∷ (p, 16) ∷ []) ≡ 0 → o ≡ false

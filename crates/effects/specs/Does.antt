@@ -1,16 +1,27 @@
 -- What the functions over the network's cells promise. Definitions only: nothing is assumed.
-use Rattle.std.specs.Prelude.{◌≡◌, List, ℕ, ◌+◌, ◌<◌, true, get_or, ℤ, pos}
+use Rattle.std.specs.Prelude.{◌≡◌, List, ℕ, ◌+◌, ◌<◌, true, get_or, ℤ, pos, Result, Ok, Err}
 use Rattle.std.specs.Int.Signed.{le_z}
 use Rattle.field.specs.Field.{devices}
 use Rattle.program.specs.Tree.{Expr}
 use Rattle.network.specs.Cells.{row}
 use Rattle.network.specs.Network.{no_message}
-use Rattle.event.specs.Event.{Event}
-use Rattle.event.specs.Step.{sensors_of, pending_to, do_event}
+use Rattle.event.specs.Event.{Event, deliver}
+use Rattle.event.specs.Step.{sensors_of, pending_to, refusal, do_event}
+use Rattle.verdict.specs.declared.Reason.{Reason}
+use Rattle.verdict.specs.Outcome.{number_of}
 use Rattle.effects.specs.declared.Answer.{Answer}
+use Rattle.effects.specs.declared.Answer.TheVariants.{Value, Refused, Faulted}
 
+-- the two numbers of an answer: "0 and the value (0 unless fire), or a refusal and 0 (17: the node that divided)"
 abbrev pub answer_of : Answer → ℤ × ℤ
-answer_of r = (r.code, r.value)
+answer_of (Value v) = (pos 0, v)
+answer_of (Refused r) = (pos (number_of r), pos 0)
+answer_of (Faulted n) = (pos 17, n)
+
+-- the answer to an event that gives no value
+abbrev pub answered : Result Unit Reason → Answer
+answered (Ok u) = Value (pos 0)
+answered (Err r) = Refused r
 
 -- the event e takes the network n to n' and is answered r, in the program main
 pub record Acts (main : Expr) (n : List ℤ) (e : Event) (r : Answer) (n' : List ℤ) : Type 0 where
@@ -18,8 +29,13 @@ pub record Acts (main : Expr) (n : List ℤ) (e : Event) (r : Answer) (n' : List
   pub answer : answer_of r ≡ (do_event main n e).1
 
 -- the same in any program: no event but fire asks for it
-abbrev pub Does : List ℤ → Event → Answer → List ℤ → Type 0
-Does n e r n' = (main : Expr) → Acts main n e r n'
+abbrev pub Does : List ℤ → Event → Result Unit Reason → List ℤ → Type 0
+Does n e r n' = (main : Expr) → Acts main n e (answered r) n'
+
+-- a message from a waits for b at that cell: nothing refuses its delivery
+pub record Waits (n : List ℤ) (a b at : ℕ) : Type 0 where
+  pub place : at ≡ pending_to a b
+  pub passes : refusal n (deliver a b) ≡ 0
 
 -- what `signal` asks, of every device: no sensors' cell is negative. A sound network has it, and every event keeps it (proofs/Lit.antt)
 abbrev pub Lit : List ℤ → Type 0

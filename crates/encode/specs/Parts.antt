@@ -1,9 +1,8 @@
 -- The word of one node, part by part. Internal: no contract of a C function cites it. Definitions only: nothing is assumed.
 use Rattle.std.specs.Prelude.{◌≡◌, Bool, cond, [], ◌∷◌, ℕ, ◌<◌, ◌≤◌, get_or, ltb}
-use Rattle.program.specs.Table.{kind_count}
 use Rattle.words.specs.Form.{constant_form, parameter_form, variable_form, operator_form, sense_form, rep_form, if_form, mux_form, fold_by_form, call_form, fold_form, nbr_form}
 use Rattle.words.specs.Form.{range_form, lag_form, field_if_form, field_operator_form}
-use Rattle.shapes.specs.Kinds.{constant_kind}
+use Rattle.shapes.specs.Kinds.{constant_kind, number_of}
 use Rattle.program.specs.Tree.{signed}
 use Rattle.words.specs.Word.{form, item, p1, p2, p3, p4, body, count, constant_of}
 use Rattle.shapes.specs.Shapes.{kids_of, lead_of}
@@ -50,26 +49,25 @@ pub record IsConstant (c w : ℕ) : Type 0 where
 pub record IsParts (f i : ℕ) (x : Node) (b w : ℕ) : Type 0 where
   pub is_form : form w ≡ f
   pub is_item : item w ≡ i
-  pub is_p1 : p1 w ≡ kid x.kids 0 x.a
-  pub is_p2 : p2 w ≡ kid x.kids 1 x.b
-  pub is_p3 : p3 w ≡ kid x.kids 2 x.c
-  pub is_p4 : p4 w ≡ kid x.kids 3 x.d
+  pub is_p1 : p1 w ≡ kid x.kids 0 (get_or x.children 0 0)
+  pub is_p2 : p2 w ≡ kid x.kids 1 (get_or x.children 1 0)
+  pub is_p3 : p3 w ≡ kid x.kids 2 (get_or x.children 2 0)
+  pub is_p4 : p4 w ≡ kid x.kids 3 (get_or x.children 3 0)
   pub is_body : body w ≡ b
   pub is_count : count w ≡ x.kids
 
 -- what has a word
 pub record Fits (x : Node) : Type 0 where
-  pub kind : x.kind < kind_count
   pub kids : x.kids ≤ 4
-  pub item : item_by x.kind x.item < 16
+  pub item : item_by (number_of x.kind) x.item < 16
 
 -- a node without children: its kind has none, or its definition has no parameters
 pub record Childless (x : Node) : Type 0 where
   pub fits : Fits x
   pub none : x.kids ≡ 0
   pub count : ℕ
-  pub kind : kids_of x.kind count ≡ 0
+  pub kind : kids_of (number_of x.kind) count ≡ 0
 
 pub record IsWord (x : Node) (b : ℕ) (side branch : Bool) (w : ℕ) : Type 0 where
-  pub is_constant : x.kind ≡ constant_kind → IsConstant x.constant w
-  pub is_parts : (x.kind ≡ constant_kind → ⊥) → IsParts (form_by x.kind side branch) (item_by x.kind x.item) x b w
+  pub is_constant : (number_of x.kind) ≡ constant_kind → IsConstant x.constant w
+  pub is_parts : ((number_of x.kind) ≡ constant_kind → ⊥) → IsParts (form_by (number_of x.kind) side branch) (item_by (number_of x.kind) x.item) x b w

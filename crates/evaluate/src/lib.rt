@@ -4,16 +4,21 @@
 // `st`: the state (crate apply). `env`: the parameters. `n`: the node.
 #![tactic(auto)]
 
-ghost use Rattle.std.specs.Prelude.{◌≡◌, cond, ◌%◌, ◌<◌, ◌≤◌, pos};
-ghost use Rattle.domain.specs.Held.{field_of};
-ghost use Rattle.round.specs.Round.{field, done, arguments, range_in, lag_in, sending, eval};
+ghost use Rattle.std.specs.Prelude.{◌≡◌, ◌%◌, ◌<◌, ◌≤◌, pos};
+ghost use Rattle.domain.specs.Held.{held};
+ghost use Rattle.heard.specs.Measures.{cells_from};
+ghost use Rattle.round.specs.Round.{field, done, arguments, measured, sending, eval};
 ghost use Rattle.words.specs.Form.{operator_form, sense_form, rep_form, if_form, mux_form, call_form, nbr_form, field_if_form, leaf_forms};
 ghost use Rattle.words.specs.Word.{form, count, word};
 ghost use Rattle.apply.specs.State.{state_of, fault_of, Gives, GivesField, GivesSide, Walks};
 ghost use Rattle.words.specs.Trees.{tree_at, arg_of};
 ghost use Rattle.leaf.specs.Asked.{Number, IsField, Argument, Inside, Folding, third_on};
 
-use layout::{FAULT, HEARD, LAGS, NODES, OWN, ROW, SENSORS, SENT, STATE};
+use apply::Walk;
+use arith::Operator;
+use domain::Held;
+use heard::Measure;
+use layout::{FAULT, MARK, NODES, OWN, SENSORS, SENT, STATE};
 use unpack::{
     CALL, FIELD_IF, FIELD_OPERATOR, FIELDS, FOLD_BY, IF, LAG, LEAST, LEAVES, MUX, NBR, OPERATOR,
     PAIR, REP, SENSE,
@@ -32,8 +37,7 @@ fn operand(
     requires { Number t.now u.now st.old n }
     ensures { Gives (eval here.now (tree_at t.now n) env.now (state_of st.old)) result st.new }
 {
-    let i = n as usize;
-    let form = unpack::form_of(t[i]);
+    let form = unpack::form_of(t[n as usize]);
     if form < LEAVES {
         return leaf::leaf(t, &*st, env, n);
     }
@@ -56,8 +60,7 @@ fn number_at(
     requires { Number t.now u.now st.old n }
     ensures { Gives (eval here.now (tree_at t.now n) env.now (state_of st.old)) result st.new }
 {
-    let i = n as usize;
-    let w = t[i];
+    let w = t[n as usize];
     let form = unpack::form_of(w);
     match form {
         OPERATOR => operator_at(t, u, here, st, env, n),
@@ -86,8 +89,7 @@ fn number_side(
     requires { Number t.now u.now st.old n }
     ensures { Gives (eval here.now (tree_at t.now n) env.now (state_of st.old)) result st.new }
 {
-    let i = n as usize;
-    if unpack::form_of(t[i]) < LEAVES {
+    if unpack::form_of(t[n as usize]) < LEAVES {
         return leaf::leaf(t, &*st, env, n);
     }
     number_at(t, u, here, st, env, n)
@@ -106,8 +108,7 @@ fn operator_at(
     requires { Number t.now u.now st.old n × (form (word t.now n) ≡ operator_form) }
     ensures { Gives (eval here.now (tree_at t.now n) env.now (state_of st.old)) result st.new }
 {
-    let i = n as usize;
-    let w = t[i];
+    let w = t[n as usize];
     let x = number_side(t, u, here, st, env, unpack::first(w));
     if st[FAULT] != 0 {
         return 0;
@@ -116,7 +117,7 @@ fn operator_at(
     if st[FAULT] != 0 {
         return 0;
     }
-    apply::number_op(st, n, unpack::item_of(w), x, y)
+    apply::number_op(st, n, Operator::from(unpack::item_of(w)), x, y)
 }
 
 // An if: the variables of the other branch are erased, then one branch is evaluated.
@@ -132,8 +133,7 @@ fn if_at(
     requires { Number t.now u.now st.old n × (form (word t.now n) ≡ if_form) }
     ensures { Gives (eval here.now (tree_at t.now n) env.now (state_of st.old)) result st.new }
 {
-    let i = n as usize;
-    let w = t[i];
+    let w = t[n as usize];
     let x = operand(t, u, here, st, env, unpack::first(w));
     if st[FAULT] != 0 {
         return 0;
@@ -141,12 +141,10 @@ fn if_at(
     let a = unpack::second(w);
     let b = unpack::third(w);
     if apply::is_true(x) {
-        let j = b as usize;
-        apply::erase(st, u[j]);
+        apply::erase(st, u[b as usize]);
         operand(t, u, here, st, env, a)
     } else {
-        let j = a as usize;
-        apply::erase(st, u[j]);
+        apply::erase(st, u[a as usize]);
         operand(t, u, here, st, env, b)
     }
 }
@@ -164,8 +162,7 @@ fn call_at(
     requires { Number t.now u.now st.old n × (form (word t.now n) ≡ call_form) }
     ensures { Gives (eval here.now (tree_at t.now n) env.now (state_of st.old)) result st.new }
 {
-    let i = n as usize;
-    let w = t[i];
+    let w = t[n as usize];
     let k = unpack::count_of(w);
     let e = unpack::body_of(w);
     if k == 0 {
@@ -203,8 +200,7 @@ fn more_at(
     requires { Number t.now u.now st.old n × (form (word t.now n) ≡ call_form) × (2 < count (word t.now n)) }
     ensures { Gives (third_on t.now n here.now env.now a b (state_of st.old)) result st.new }
 {
-    let i = n as usize;
-    let w = t[i];
+    let w = t[n as usize];
     let c = operand(t, u, here, st, env, unpack::third(w));
     if st[FAULT] != 0 {
         return 0;
@@ -239,9 +235,10 @@ fn argument(
     ensures { Gives (eval here.now (arg_of t.now there n) env.now (state_of st.old)) result st.new }
 {
     if there {
-        return operand(t, u, here, st, env, n);
+        operand(t, u, here, st, env, n)
+    } else {
+        0
     }
-    0
 }
 
 // A definition's body, below the node n that calls it.
@@ -278,8 +275,7 @@ fn other_at(
     requires { Number t.now u.now st.old n × (leaf_forms ≤ form (word t.now n)) × (form (word t.now n) % 3 ≡ 0 → ⊥) }
     ensures { Gives (eval here.now (tree_at t.now n) env.now (state_of st.old)) result st.new }
 {
-    let i = n as usize;
-    let form = unpack::form_of(t[i]);
+    let form = unpack::form_of(t[n as usize]);
     match form {
         SENSE => sense_at(t, u, here, st, env, n),
         REP => rep_at(t, u, here, st, env, n),
@@ -301,8 +297,7 @@ fn sense_at(
     requires { Number t.now u.now st.old n × (form (word t.now n) ≡ sense_form) }
     ensures { Gives (eval here.now (tree_at t.now n) env.now (state_of st.old)) result st.new }
 {
-    let i = n as usize;
-    let w = t[i];
+    let w = t[n as usize];
     let s = operand(t, u, here, st, env, unpack::first(w));
     if st[FAULT] != 0 {
         return 0;
@@ -323,15 +318,14 @@ fn rep_at(
     requires { Number t.now u.now st.old n × (form (word t.now n) ≡ rep_form) }
     ensures { Gives (eval here.now (tree_at t.now n) env.now (state_of st.old)) result st.new }
 {
-    let i = n as usize;
-    let w = t[i];
+    let w = t[n as usize];
     let v = unpack::item_of(w) as usize;
     let x = operand(t, u, here, st, env, unpack::first(w));
     if st[FAULT] != 0 {
         return 0;
     }
     let old = st[v];
-    if old == layout::MARK {
+    if old == MARK {
         st[v] = x;
         return x;
     }
@@ -356,8 +350,7 @@ fn mux_at(
     requires { Number t.now u.now st.old n × (form (word t.now n) ≡ mux_form) }
     ensures { Gives (eval here.now (tree_at t.now n) env.now (state_of st.old)) result st.new }
 {
-    let i = n as usize;
-    let w = t[i];
+    let w = t[n as usize];
     let y = operand(t, u, here, st, env, unpack::second(w));
     if st[FAULT] != 0 {
         return 0;
@@ -370,10 +363,7 @@ fn mux_at(
     if st[FAULT] != 0 {
         return 0;
     }
-    if apply::is_true(x) {
-        return y;
-    }
-    z
+    if apply::is_true(x) { y } else { z }
 }
 
 // A fold: from its first operand, over the field of its second; by the lesser, by a definition or by an operator.
@@ -389,8 +379,7 @@ fn fold_at(
     requires { Number t.now u.now st.old n × Folding (form (word t.now n)) }
     ensures { Gives (eval here.now (tree_at t.now n) env.now (state_of st.old)) result st.new }
 {
-    let i = n as usize;
-    let w = t[i];
+    let w = t[n as usize];
     let x = operand(t, u, here, st, env, unpack::first(w));
     if st[FAULT] != 0 {
         return 0;
@@ -401,15 +390,12 @@ fn fold_at(
     }
     let form = unpack::form_of(w);
     if form == LEAST {
-        let walk = apply::fold_least(x, f.dom, &f.cells);
-        return walk.value;
+        return apply::fold_least(x, &f).value;
     }
     if form == FOLD_BY {
-        let walk = fold_by(t, u, here, st, n, unpack::body_of(w), x, f.dom, &f.cells);
-        return walk.value;
+        return fold_by(t, u, here, st, n, unpack::body_of(w), x, &f).value;
     }
-    let walk = apply::fold_op(st, n, unpack::item_of(w), x, f.dom, &f.cells);
-    walk.value
+    apply::fold_op(st, n, Operator::from(unpack::item_of(w)), x, &f).value
 }
 
 // A field folded by a definition, lowest device first: a turn for each device.
@@ -422,33 +408,21 @@ fn fold_by(
     n: u16,
     e: u16,
     from: i32,
-    dom: domain::Domain,
-    cells: &[i32; 16],
-) -> apply::Walk
+    field: &Held,
+) -> Walk
     requires { (Number t.now u.now st.old e) × (e < n) }
-    ensures { Walks (λ x y s. eval here.now (tree_at t.now e) (arguments x y (pos 0) (pos 0)) s) (field_of dom.bits cells.now) from
-        (state_of st.old) result st.new }
+    ensures { Walks (λ x y s. eval here.now (tree_at t.now e) (arguments x y (pos 0) (pos 0)) s) (held field.now) from (state_of st.old) result st.new }
 {
-    let mut acc = from;
-    let mut left = dom;
-    let mut turns: u32 = 0;
-    while left.bits != 0 {
-        let k = left.lowest();
-        left = left.rest();
+    let mut value = from;
+    let mut turns = 0;
+    for k in field.dom {
         turns += 1;
-        let v = cells[k];
-        acc = call(t, u, here, st, n, e, acc, v, 0, 0);
+        value = call(t, u, here, st, n, e, value, field.cells[k], 0, 0);
         if st[FAULT] != 0 {
-            return apply::Walk {
-                value: 0,
-                turns: turns,
-            };
+            return Walk { value: 0, turns };
         }
     }
-    apply::Walk {
-        value: acc,
-        turns: turns,
-    }
+    Walk { value, turns }
 }
 
 // A node that gives a field. An operator is done in place: a function of its own would take more stack a level.
@@ -460,12 +434,11 @@ fn field_at(
     st: &mut [i32; STATE],
     env: &[i32; 4],
     n: u16,
-) -> domain::Held
+) -> Held
     requires { IsField t.now u.now st.old n }
     ensures { GivesField (eval here.now (tree_at t.now n) env.now (state_of st.old)) result st.new }
 {
-    let i = n as usize;
-    let w = t[i];
+    let w = t[n as usize];
     let form = unpack::form_of(w);
     match form {
         NBR => nbr_at(t, u, here, st, env, n),
@@ -473,15 +446,23 @@ fn field_at(
         FIELD_OPERATOR => {
             let l = field_side(t, u, here, st, env, unpack::first(w));
             if st[FAULT] != 0 {
-                return domain::no_field();
+                return Held::no_field();
             }
             let r = field_side(t, u, here, st, env, unpack::second(w));
             if st[FAULT] != 0 {
-                return domain::no_field();
+                return Held::no_field();
             }
-            apply::field_op(st, n, unpack::item_of(w), l.dom, &l.cells, r.dom, &r.cells)
+            apply::field_op(st, n, Operator::from(unpack::item_of(w)), &l, &r)
         }
-        _ => measured_at(here, st, unpack::item_of(w) as usize, form == LAG),
+        _ => {
+            // Stays (b): one arm takes both, so that the call stands once and is compiled in place (DECISIONS, C18).
+            let measure = if form == LAG {
+                Measure::AGE
+            } else {
+                Measure::DISTANCE
+            };
+            measured_at(here, st, unpack::item_of(w) as usize, measure)
+        }
     }
 }
 
@@ -494,15 +475,14 @@ fn nbr_at(
     st: &mut [i32; STATE],
     env: &[i32; 4],
     n: u16,
-) -> domain::Held
+) -> Held
     requires { IsField t.now u.now st.old n × (form (word t.now n) ≡ nbr_form) }
     ensures { GivesField (eval here.now (tree_at t.now n) env.now (state_of st.old)) result st.new }
 {
-    let i = n as usize;
-    let w = t[i];
+    let w = t[n as usize];
     let x = operand(t, u, here, st, env, unpack::first(w));
     if st[FAULT] != 0 {
-        return domain::no_field();
+        return Held::no_field();
     }
     let slot = unpack::item_of(w) as usize;
     st[SENT + slot] = x;
@@ -518,25 +498,22 @@ fn field_if_at(
     st: &mut [i32; STATE],
     env: &[i32; 4],
     n: u16,
-) -> domain::Held
+) -> Held
     requires { IsField t.now u.now st.old n × (form (word t.now n) ≡ field_if_form) }
     ensures { GivesField (eval here.now (tree_at t.now n) env.now (state_of st.old)) result st.new }
 {
-    let i = n as usize;
-    let w = t[i];
+    let w = t[n as usize];
     let x = operand(t, u, here, st, env, unpack::first(w));
     if st[FAULT] != 0 {
-        return domain::no_field();
+        return Held::no_field();
     }
     let a = unpack::second(w);
     let b = unpack::third(w);
     if apply::is_true(x) {
-        let k = b as usize;
-        apply::erase(st, u[k]);
+        apply::erase(st, u[b as usize]);
         field_at(t, u, here, st, env, a)
     } else {
-        let k = a as usize;
-        apply::erase(st, u[k]);
+        apply::erase(st, u[a as usize]);
         field_at(t, u, here, st, env, b)
     }
 }
@@ -550,31 +527,24 @@ fn field_side(
     st: &mut [i32; STATE],
     env: &[i32; 4],
     n: u16,
-) -> domain::Held
+) -> Held
     requires { Inside t.now u.now st.old n }
     ensures { GivesSide (eval here.now (tree_at t.now n) env.now (state_of st.old)) (form (word t.now n)) result st.new }
 {
-    let i = n as usize;
-    if unpack::form_of(t[i]) >= FIELDS {
+    if unpack::form_of(t[n as usize]) >= FIELDS {
         return field_at(t, u, here, st, env, n);
     }
     let v = number_side(t, u, here, st, env, n);
-    domain::spread(v)
+    Held::spread(v)
 }
 
-// An nbr-range, or an nbr-lag where `lag`: 0 is sent, and the field is the measure of those heard with 0.
-fn measured_at(here: &[i32; OWN], st: &mut [i32; STATE], slot: usize, lag: bool) -> domain::Held
+// An nbr-range or an nbr-lag: 0 is sent, and the field is the measure of those heard with 0.
+fn measured_at(here: &[i32; OWN], st: &mut [i32; STATE], slot: usize, measure: Measure) -> Held
     requires { (slot < 16) × (fault_of st.old ≡ pos 0) }
-    ensures { GivesField (done (field (cond lag (lag_in here.now slot) (range_in here.now slot))) (sending slot (pos 0) (state_of st.old))) result st.new }
+    ensures { GivesField (done (field (measured (cells_from measure.from measure.by) here.now slot)) (sending slot (pos 0) (state_of st.old))) result st.new }
 {
     st[SENT + slot] = 0;
-    let mut from = HEARD;
-    let mut by = ROW;
-    if lag {
-        from = LAGS;
-        by = 1;
-    }
-    heard::measured(here, slot, from, by)
+    heard::measured(here, slot, measure)
 }
 
 // Node main of a sound table, where the round reads the cells `here`, with no parameters.
@@ -588,7 +558,5 @@ pub fn evaluate(
     requires { Number t.now u.now st.old main }
     ensures { Gives (eval here.now (tree_at t.now main) (arguments (pos 0) (pos 0) (pos 0) (pos 0)) (state_of st.old)) result st.new }
 {
-    let z: i32 = 0;
-    let env = [z; 4];
-    operand(t, u, here, st, &env, main)
+    operand(t, u, here, st, &[0; 4], main)
 }

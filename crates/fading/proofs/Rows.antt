@@ -1,19 +1,21 @@
 -- Heard rows and ages stored. Assumes nothing.
 use mathlib.Core.Path.{◌≡◌, refl, sym, ap, ◌∙◌}
 use mathlib.Core.Bool.{Bool, true, false, cond}
-use mathlib.Core.List.{List, [], ◌∷◌, map}
+use mathlib.Core.List.{List, [], ◌∷◌, ◌++◌, map}
 use Prim.Native.Nat.{ℕ, zero, suc, ◌+◌, ◌-◌, ◌*◌, ◌<◌, ◌≤◌}
 use native.Mathlib.Nat.{suc-add}
 use native.Mathlib.Omega.{arith}
 use native.Mathlib.Numerals.{add-one}
-use lib.ListN.{length, get_or, take, drop, set, replicate, length-map, get_or-map}
-use lib.Seq.{get_or-take, get_or-drop, drop-cons, length-take-le}
+use lib.ListN.{length, get_or, take, drop, set, replicate, length-map}
+use lib.Seq.{get_or-take, get_or-drop, drop-cons}
 use lib.IntN.{ℤ, pos}
 use Rattle.number.specs.Number.{mark}
 use Rattle.field.specs.Field.{devices, each}
 use Rattle.network.specs.Cells.{row, store}
 use Rattle.network.specs.Network.{heard_at, age_at, block_size}
-use Rattle.network.proofs.Stores.{store_out, store-more, row-row}
+use Rattle.network.proofs.Stores.{store_out, row-row}
+use borrow.Rule.Slice.PartMut.{put_mid}
+use Rattle.cells.proofs.Stores.{overwritten}
 use Rattle.cells.proofs.Rows.{row-length, store-row, row_out, joined_length, joined-rows}
 use Rattle.field.proofs.Each.{from-same}
 use Rattle.round.specs.Round.{joined, fades, older, ages, faded}
@@ -53,15 +55,18 @@ module _ (n : List ℤ) (at : ℕ) (z : List ℤ) where
   row-behind vs k y e = rw (store_out n at vs (at + k) (pos 0) (λ p q. omega arith), row_out n at vs (at + k + 1) 15 (pos 0) (λ c p q r s. omega arith))
 
 -- ---- all ages
--- a turn of the loop
-pub age-more : (n net : List ℤ) (at b : ℕ) (v : ℤ) → at + devices ≤ length n → b < devices → v ≡ older (get_or net (at + b) (pos 0)) → net ≡ store n at (take b (map older (row n at devices)))
-    → set net (at + b) v ≡ store n at (take (b + 1) (map older (row n at devices)))
-age-more n net at b v h g e q =
-    let l : length (map older (row n at devices)) ≡ devices = length-map (row n at devices) older ∙ row-length n at devices h in
-    let k : length (take b (map older (row n at devices))) ≡ b = length-take-le b (map older (row n at devices)) (omega arith) in
-    store-more n net at b (map older (row n at devices)) (older (pos 0)) v (omega arith)
-    (e ∙ ap older (rw q (store_out n at (take b (map older (row n at devices))) (at + b) (pos 0) (λ x y. omega arith))
-    ∙ sym (get_or-take devices (drop at n) b (pos 0) g ∙ get_or-drop at n b (pos 0))) ∙ sym (get_or-map older (row n at devices) b (pos 0))) q
+-- one age more of a loop that goes over them
+pub age_more : (l m : List ℤ) (i : ℕ) (v : ℤ) → i < length l → m ≡ map older (take i l) ++ drop i l → v ≡ older (get_or m i (pos 0)) → set m i v ≡ map older (take (i + 1) l) ++ drop (i + 1) l
+age_more l m i v h e q = rw (q, e, add-one i) (go l i h)
+  where
+    go : (l : List ℤ) (i : ℕ) → i < length l → set (map older (take i l) ++ drop i l) i (older (get_or (map older (take i l) ++ drop i l) i (pos 0))) ≡ map older (take (suc i) l) ++ drop (suc i) l
+    go [] i h = absurd (omega arith)
+    go (x ∷ l) zero h = refl
+    go (x ∷ l) (suc i) h = ap (older x ∷◌) (go l i (omega arith))
+
+-- the ages from p on, all written
+pub renewed : (m ys : List ℤ) (p k : ℕ) → k ≡ devices → p + devices ≤ length m → ys ≡ map older (take k (drop p m)) → put_mid p k m ys ≡ store m p (map older (row m p devices))
+renewed m ys p k e h q = rw (q, e) (overwritten p devices m (map older (row m p devices)) (length-map (row m p devices) older ∙ row-length m p devices h) h)
 
 -- ---- the device's heard rows and ages, from its first cell on
 module _ (n : List ℤ) (at : ℕ) (h : at + block_size ≤ length n) where
@@ -86,14 +91,18 @@ module _ (n : List ℤ) (at : ℕ) (h : at + block_size ≤ length n) where
       )
 
   -- where none fades the rows stay
-  pub none-faded : NoneFades n (at + age_at 1) devices → n ≡ store n (at + heard_at 1) (joined (each (faded (row n at block_size))))
-  none-faded f =
+  pub none-faded : (l : List ℤ) → l ≡ row n (at + age_at 1) devices → NoneFades l (length l) → n ≡ store n (at + heard_at 1) (joined (each (faded (row n at block_size))))
+  none-faded l e f =
       sym (ap (store n (at + heard_at 1)) (joined-rows n (faded (row n at block_size)) 16 1 16 (at + heard_at 1) (λ j l. faded-is j l ∙ same j l)) ∙ store-row n (at + heard_at 1) (16 * 16))
     where
+      long : length l ≡ devices
+      long = ap length e ∙ row-length n (at + age_at 1) devices (omega arith)
+
       same : (j : ℕ) → j < devices → row_of n (at + heard_at 1) (row n (at + age_at 1) devices) (1 + j) ≡ row n (at + heard_at 1 + 16 * j) 16
-      same j l =
+      same j g =
           let i : 1 + j - 1 ≡ j = omega arith in
-          rw (i, age-at j l, f.each-stays j l) (sym (row_cons n (at + heard_at 1 + 16 * j) (omega arith)))
+          let z : fades (get_or (row n (at + age_at 1) devices) j (pos 0)) ≡ false = rw (← e) (f.each-stays j (omega (arith, long))) in
+          rw (i, z) (sym (row_cons n (at + heard_at 1 + 16 * j) (omega arith)))
 
   -- else each is as its age says
   pub some-faded : (z m : List ℤ) → z ≡ row n (at + age_at 1) devices → m ≡ store n (at + heard_at 1) (joined (each (row_of n (at + heard_at 1) z)))

@@ -10,9 +10,9 @@ use Rattle.round.specs.Round.{joined, fades, older, ages, faded}
 abbrev pub row_after : List ℤ → ℕ → ℤ → List ℤ
 row_after n at z = get_or n at (pos 0) ∷ cond (fades z) (replicate 15 mark) (row n (at + 1) 15)
 
--- nothing fades that has one of the k ages from `at` on
-pub record NoneFades (n : List ℤ) (at k : ℕ) : Type 0 where
-  pub each-stays : (b : ℕ) → b < k → fades (get_or n (at + b) (pos 0)) ≡ false
+-- nothing fades that has one of the first k of these ages
+pub record NoneFades (l : List ℤ) (k : ℕ) : Type 0 where
+  pub each-stays : (b : ℕ) → b < k → fades (get_or l b (pos 0)) ≡ false
 
 -- n' is n after a round of the device whose cells are from `at` on, as to what it heard
 pub record Older (n : List ℤ) (at : ℕ) (n' : List ℤ) : Type 0 where

@@ -22,7 +22,9 @@ use Rattle.event.specs.Event.{fire}
 use Rattle.event.specs.Step.{pending_to, out_of_range, block, effect, plan}
 use Rattle.apply.specs.State.{state_size, state_of, fault_of, Gives}
 use Rattle.arith.proofs.Signs.{eq_z-yes, eq_z-no}
+use Rattle.verdict.specs.declared.Reason.TheVariants.{BadItem}
 use Rattle.effects.specs.declared.Answer.{Answer}
+use Rattle.effects.specs.declared.Answer.TheVariants.{Refused}
 use Rattle.effects.specs.Does.{answer_of, Acts, IdleRow, Idle}
 use Rattle.effects.proofs.Refusals.{is-14, is-0, turned}
 use Rattle.fire.specs.Fires.{at_first, IdleRows, Puts}
@@ -76,6 +78,9 @@ module _ (st : List ℤ) (h : length st ≡ state_size) where
   unfolding state_of
   sent-length = row-length st 16 16 (omega arith)
 
+  pub message-cells : (here : List ℤ) (b : ℕ) → length (message here (state_of st) b) ≡ 16
+  message-cells here b = message-length here (state_of st) b sent-length
+
 -- ---- an outcome
 pub record Stopped (o : Outcome) (st b : List ℤ) : Type 0 where
   pub node : ℕ
@@ -106,8 +111,8 @@ module _ (z : ℤ) (k : ℕ) (f : SFits w32 z) (e : z ≡ pos (k + 1)) where
 
 -- ---- a fire of a
 module _ (main : Expr) (n : List ℤ) (a : ℕ) where
-  pub refused : (r : Answer) → out_of_range (fire a) ≡ true → answer_of r ≡ (pos 14, pos 0) → Acts main n (fire a) r n
-  refused r o q = turned n (fire a) r 14 (is-14 n (fire a) o) (λ z. omega arith) q main
+  pub refused : out_of_range (fire a) ≡ true → Acts main n (fire a) (Refused BadItem) n
+  refused o = turned n (fire a) BadItem (is-14 n (fire a) o) main
 
   planned : out_of_range (fire a) ≡ false → plan main n (fire a) ≡ effect main n (fire a)
   unfolding plan

@@ -1,10 +1,10 @@
 -- What a fire asks and promises. Definitions only: nothing is assumed.
-use Rattle.std.specs.Prelude.{◌≡◌, List, [], ◌∷◌, map, ℕ, ◌+◌, ◌*◌, ◌<◌, length, take, replicate, ℤ, pos}
+use Rattle.std.specs.Prelude.{◌≡◌, List, [], ◌∷◌, map, ℕ, ◌+◌, ◌*◌, ◌<◌, take, replicate, ℤ, pos}
 use Rattle.number.specs.Number.{mark}
 use Rattle.field.specs.Field.{devices, each}
 use Rattle.program.specs.Table.{node_limit}
 use Rattle.network.specs.Cells.{row, write}
-use Rattle.network.specs.Network.{network_size, block_size, heard_at, pending_at, age_at}
+use Rattle.network.specs.Network.{block_size, heard_at, pending_at, age_at}
 use Rattle.round.specs.Round.{State, message, joined, older, ages, faded}
 use Rattle.words.specs.Form.{number_forms}
 use Rattle.words.specs.Word.{form, word}
@@ -33,9 +33,8 @@ pub record Puts (n : List ℤ) (at : ℕ) (here st n' : List ℤ) : Type 0 where
       ∷ (at + pending_at 1, joined (each (message here (state_of st))))
       ∷ [])
 
--- a whole network in whose rows of messages a mark of 0 says nothing pending, and a sound table whose node main gives a number
+-- a network in whose rows of messages a mark of 0 says nothing pending, and a sound table whose node main gives a number
 pub record MayFire (ws us : List ℕ) (main : ℕ) (n : List ℤ) : Type 0 where
-  pub whole : length n ≡ network_size
   pub idle : Idle n
   pub sound : Sound ws us
   pub inside : main < node_limit

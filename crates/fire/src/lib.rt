@@ -10,11 +10,13 @@ ghost use Rattle.network.specs.Cells.{row, store};
 ghost use Rattle.network.specs.Network.{block_size, pending_at};
 ghost use Rattle.round.specs.Round.{own, message, joined};
 ghost use Rattle.event.specs.Event.{fire};
-ghost use Rattle.apply.specs.State.{state_size, state_of};
+ghost use Rattle.apply.specs.State.{state_of};
 ghost use Rattle.words.specs.Trees.{tree_at};
 ghost use Rattle.effects.specs.Does.{Acts, IdleRow};
 ghost use Rattle.fire.specs.Fires.{Begun, IdleRows, Puts, MayFire};
-ghost use Rattle.heard.specs.Measures.{own_size};
+
+use effects::Answer;
+use verdict::Reason;
 
 // What a round reads of the device's cells, which are from `at` on.
 fn own_cells(net: &[i32], at: usize) -> [i32; layout::OWN]
@@ -34,49 +36,46 @@ fn own_cells(net: &[i32], at: usize) -> [i32; layout::OWN]
 }
 
 // The state that a round begins with: the device's variables, nothing sent, no fault.
-fn begin(here: &[i32; layout::OWN], st: &mut [i32])
-    requires { (length here.now ≡ own_size) × (length st.old ≡ state_size) }
+fn begin(here: &[i32; layout::OWN], st: &mut [i32; layout::STATE])
     ensures { Begun here.now st.new }
 {
+    st[..layout::SENT].copy_from_slice(&here[..layout::ROW]);
+    st[layout::SENT..layout::FAULT].fill(layout::MARK);
     st[layout::FAULT] = 0;
-    let mut i: usize = 0;
-    while i < layout::SENT {
-        st[i] = here[i];
-        st[layout::SENT + i] = layout::MARK;
-        i += 1;
-    }
 }
 
 // The row at `at`, to device 1 + b, after a round: with a link the slots sent, else nothing pending; a row that is so already is left alone.
-fn put_message(net: &mut [i32], at: usize, here: &[i32; layout::OWN], st: &[i32], b: usize)
-    requires { (at + 16 ≤ length net.old) × (b < devices) × (length st.now ≡ state_size) × IdleRow (row net.old at 16) }
+fn put_message(
+    net: &mut [i32],
+    at: usize,
+    here: &[i32; layout::OWN],
+    st: &[i32; layout::STATE],
+    b: usize,
+)
+    requires { (at + 16 ≤ length net.old) × (b < devices) × IdleRow (row net.old at 16) }
     ensures { net.new ≡ store net.old at (message here.now (state_of st.now) (1 + b)) }
 {
-    if here[layout::HEARD + layout::ROW * b] == layout::MARK {
-        if net[at] != 0 {
-            cells::no_message(net, at);
-        }
-        return;
+    if here[layout::HEARD + layout::ROW * b] != layout::MARK {
+        cells::copy(net, at, st, layout::SENT, layout::ROW);
+        net[at] = 1;
+    } else if net[at] != 0 {
+        cells::no_message(net, at);
     }
-    cells::copy(net, at, st, layout::SENT, layout::ROW);
-    net[at] = 1;
 }
 
 // The rows to all devices, from `at` on.
-fn put_messages(net: &mut [i32], at: usize, here: &[i32; layout::OWN], st: &[i32])
-    requires { (at + 16 * devices ≤ length net.old) × (length st.now ≡ state_size) × IdleRows net.old at }
+fn put_messages(net: &mut [i32], at: usize, here: &[i32; layout::OWN], st: &[i32; layout::STATE])
+    requires { (at + 16 * devices ≤ length net.old) × IdleRows net.old at }
     ensures { net.new ≡ store net.old at (joined (each (message here.now (state_of st.now)))) }
 {
-    let mut b: usize = 0;
-    while b < layout::DEVICES {
+    for b in 0..layout::DEVICES {
         put_message(net, at + layout::ROW * b, here, st, b);
-        b += 1;
     }
 }
 
 // The device's cells from `at` on after a round that left `st`.
-fn put_round(net: &mut [i32], at: usize, here: &[i32; layout::OWN], st: &[i32])
-    requires { (at + block_size ≤ length net.old) × (length st.now ≡ state_size) × IdleRows net.old (at + pending_at 1) }
+fn put_round(net: &mut [i32], at: usize, here: &[i32; layout::OWN], st: &[i32; layout::STATE])
+    requires { (at + block_size ≤ length net.old) × IdleRows net.old (at + pending_at 1) }
     ensures { Puts net.old at here.now st.now net.new }
 {
     fading::pass_round(net, at);
@@ -84,32 +83,39 @@ fn put_round(net: &mut [i32], at: usize, here: &[i32; layout::OWN], st: &[i32])
     put_messages(net, at + layout::PENDING, here, st);
 }
 
-// Device a's round. A fault, or a number of no device, changes nothing.
-pub fn fire(
-    t: &[u64; layout::NODES],
-    u: &[u16; layout::NODES],
-    main: u16,
-    net: &mut [i32],
-    a: u8,
-    st: &mut [i32; layout::STATE],
-) -> effects::Answer
-    requires { MayFire t.now u.now main net.old }
-    ensures { Acts (tree_at t.now main) net.old (fire a) result net.new }
-{
-    if effects::fire_refused(a) {
-        return effects::Answer { code: 14, value: 0 };
+// A program as rounds read it: its words, the masks beside them and its main node.
+// Stays (c): that it is sound is a `requires` (MayFire) and no ghost field, since what `Sound` says of a least's body speaks of every state,
+// and the check finds no proof that it has one proof at most.
+#[derive(Clone, Copy)]
+pub struct Program<'a> {
+    pub words: &'a [u64; layout::NODES],
+    pub masks: &'a [u16; layout::NODES],
+    pub main: u16,
+}
+
+impl Program<'_> {
+    // Device a's round. A fault, or a number of no device, changes nothing.
+    pub fn fire(
+        &self,
+        net: &mut [i32; layout::CELLS],
+        a: u8,
+        st: &mut [i32; layout::STATE],
+    ) -> Answer
+        requires { MayFire self.now.words.now self.now.masks.now self.now.main net.old }
+        ensures { Acts (tree_at self.now.words.now self.now.main) net.old (fire a) result net.new }
+    {
+        if !cells::is_device(a) {
+            return Answer::Refused(Reason::BadItem);
+        }
+        let at = (a as usize - 1) * layout::BLOCK;
+        let here = own_cells(net, at);
+        begin(&here, st);
+        let value = evaluate::evaluate(self.words, self.masks, &here, st, self.main);
+        let fault = st[layout::FAULT];
+        if fault != 0 {
+            return Answer::Faulted(fault - 1);
+        }
+        put_round(net, at, &here, st);
+        Answer::Value(value)
     }
-    let at = ((a as usize) - 1) * layout::BLOCK;
-    let here = own_cells(&*net, at);
-    begin(&here, st);
-    let v = evaluate::evaluate(t, u, &here, st, main);
-    let f = st[layout::FAULT];
-    if f != 0 {
-        return effects::Answer {
-            code: 17,
-            value: f - 1,
-        };
-    }
-    put_round(net, at, &here, &*st);
-    effects::Answer { code: 0, value: v }
 }

@@ -1,25 +1,31 @@
 -- What the scan back from a closing bracket answers.
-use Rattle.std.specs.Prelude.{◌≡◌, Bool, cond, List, [], reverse, ℕ, ◌≤◌, length}
+use Rattle.std.specs.Prelude.{◌≡◌, Bool, false, Option, Some, None, List, [], reverse, ℕ, ◌≤◌, eqb, length, take}
 use Rattle.std.proofs.Math.Option.{none, some}
-use Rattle.notation.specs.Words.{between}
+use Rattle.std.proofs.Math.Option as maybe
 use Rattle.notation.proofs.Lexing.{lex}
-use Rattle.rep_around.specs.declared.Walk.{Walk}
-use Rattle.tabling.specs.Emit.{around}
+use Rattle.lexemes.specs.declared.Kind.{Kind}
+use Rattle.lexemes.specs.declared.Kind.TheVariants.{Opening, Closing, Word as AWord}
+use Rattle.rep_around.specs.Outward.{Passed}
+use Rattle.tabling.specs.Emit.{Around, around}
 use Rattle.forms.specs.declared.Form.{Form}
 
--- the form that a walk has passed, up to the bracket at `place`
-abbrev pub formed : Bool → ℕ → Walk → Form
-formed found place x = record { found = found; «open» = place; items = x.items; a = x.a; b = x.b; c = x.c; d = x.d }
+-- whether a token of that kind opens the form of a walk
+abbrev pub opens : Kind → Passed → Bool
+opens Opening x = eqb x.depth 0
+opens Closing x = false
+opens AWord x = false
 
--- the form around the end of the bytes top..at of a text
-pub record Closes (s : List ℕ) (top at : ℕ) (r : Form) : Type 0 where
-  pub behind : top ≤ r.«open»
-  pub before : r.«open» ≤ at
-  pub head : (r.a ≤ r.b) × (r.b ≤ length s)
-  pub second : (r.c ≤ r.d) × (r.d ≤ length s)
-  pub few : r.items ≤ at
-  pub same :
-      around 0 0 [] [] (reverse (lex (between top at s)))
-      ≡ cond r.found
-      (some (record { rest = reverse (lex (between top r.«open» s)); items = r.items; head = between r.a r.b s; second = between r.c r.d s }))
-      none
+-- a form that was found in the bytes e, as `around` has it
+abbrev pub form_in : List ℕ → Option Form → maybe.Option Around
+form_in e None = none
+form_in e (Some f) = some (record { rest = reverse (lex (take f.«open» e)); items = f.items; head = f.head.now; second = f.second.now })
+
+-- its numbers are small
+abbrev pub within : List ℕ → Option Form → Type 0
+within e None = Unit {0}
+within e (Some f) = (f.«open» ≤ length e) × (f.items ≤ length e)
+
+-- the form around the end of the bytes e of a top-level form
+pub record Closes (e : List ℕ) (r : Option Form) : Type 0 where
+  pub inside : within e r
+  pub same : around 0 0 [] [] (reverse (lex e)) ≡ form_in e r

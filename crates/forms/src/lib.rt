@@ -1,105 +1,65 @@
-// The form that a closing bracket ends, and what the front of a top-level form says of it, by scans of the tokens.
+// The form that a closing bracket ends, and whether a top-level form is a definition, by scans of the tokens.
 #![tactic(auto)]
 
-ghost use Rattle.std.specs.Prelude.{◌≡◌, ◌&&◌, ◌≤◌, eqb, length};
-ghost use Rattle.notation.specs.Words.{between};
+ghost use Rattle.std.specs.Prelude.{◌≡◌};
 ghost use Rattle.notation.proofs.Lexing.{lex};
-ghost use Rattle.token_scans.specs.Scan.{parameters_in};
 ghost use Rattle.tabling.specs.Emit.{is_definition};
-ghost use Rattle.forms.specs.Closes.{formed, Closes};
+ghost use Rattle.rep_around.specs.Outward.{passed_by};
+ghost use Rattle.forms.specs.Closes.{opens, Closes};
 
-// A form from its end: where its bracket opens, how many items it has with its head, its head a..b, the word behind that c..d.
-#[derive(Drop)]
-pub struct Form {
-    pub found: bool,
+use lexemes::Kind;
+use rep_around::Walk;
+
+// A form from its end: how far into its top-level form its bracket stands, how many items it has with its head, its head, the word behind that.
+#[derive(Clone, Copy)]
+pub struct Form<'a> {
     pub open: usize,
     pub items: usize,
-    pub a: usize,
-    pub b: usize,
-    pub c: usize,
-    pub d: usize,
+    pub head: &'a [u8],
+    pub second: &'a [u8],
 }
 
-fn form_from(found: bool, place: usize, x: rep_around::Walk) -> Form
-    ensures { result ≡ formed found place x }
+// Whether a token of that kind opens the form that the walk has passed.
+fn opens(kind: Kind, walk: Walk<'_>) -> bool
+    ensures { result ≡ opens kind (passed_by walk.entry) }
 {
-    Form {
-        found: found,
-        open: place,
-        items: x.items,
-        a: x.a,
-        b: x.b,
-        c: x.c,
-        d: x.d,
+    match kind {
+        Kind::Opening => walk.depth == 0,
+        Kind::Closing | Kind::Word => false,
     }
 }
 
-// Whether a token of that kind opens the form, where `depth` brackets are still to be opened.
-fn opens(kind: u8, depth: usize) -> bool
-    ensures { result ≡ (eqb kind 1 && eqb depth 0) }
+// The form whose closing bracket stands behind these bytes of a top-level form.
+pub fn form_of(part: &[u8]) -> Option<Form<'_>>
+    ensures { Closes part.now result }
 {
-    if kind != 1 {
+    let mut walk = Walk::new();
+    let mut at = part.len();
+    // Stays (c): no `while let`, which the borrow checker does not cover beside a walk that holds references.
+    loop {
+        let l = lexemes::last(part, at)?;
+        if opens(l.kind, walk) {
+            return Some(Form {
+                open: l.start,
+                items: walk.items,
+                head: walk.last,
+                second: walk.prior,
+            });
+        }
+        walk = walk.outward(l.kind, &part[l.start..l.end]);
+        at = l.start;
+    }
+}
+
+// Whether a top-level form is a definition: its second token is def. A form of one token is none.
+pub fn is_definition(form: &[u8]) -> bool
+    ensures { result ≡ is_definition (lex form.now) }
+{
+    let Some(first) = lexemes::next(form, 0) else {
         return false;
-    }
-    depth == 0
-}
-
-// The form whose closing bracket stands at `at`, in the top-level form that begins at `top`.
-pub fn form_of(s: &[u8], top: usize, at: usize) -> Form
-    requires { (top ≤ at) × (at ≤ length s.now) }
-    ensures { Closes s.now top at result }
-{
-    let e = &s[top..at];
-    let mut p = at - top;
-    let mut x = rep_around::Walk {
-        depth: 0,
-        items: 0,
-        a: 0,
-        b: 0,
-        c: 0,
-        d: 0,
     };
-    while 0 < p {
-        let l = lexemes::last(e, p);
-        let kind = l.kind;
-        let start = l.start;
-        let end = l.end;
-        if kind == 0 {
-            return form_from(false, top, x);
-        }
-        if opens(kind, x.depth) {
-            return form_from(true, top + start, x);
-        }
-        x = rep_around::step(kind, top + start, top + end, x);
-        p = start;
+    match lexemes::next(form, first.end) {
+        Some(l) if l.kind == Kind::Word => &form[l.start..l.end] == b"def".as_slice(),
+        _ => false,
     }
-    form_from(false, top, x)
-}
-
-// Whether the form that begins at `top` is a definition: its second token is def. A form of one token is none.
-pub fn is_definition(s: &[u8], top: usize, at: usize) -> bool
-    requires { (top ≤ at) × (at ≤ length s.now) }
-    ensures { result ≡ is_definition (lex (between top at s.now)) }
-{
-    let e = &s[top..at];
-    let l = lexemes::next(e, 0);
-    let first = l.kind;
-    if first == 0 {
-        return false;
-    }
-    let m = lexemes::next(e, l.end);
-    let second = m.kind;
-    if second != 3 {
-        return false;
-    }
-    vocabulary::code(e, m.start, m.end) == 9
-}
-
-// How many parameters the definition that begins at `top` has up to `at`: the empty word is none of them, so it is sought past them all.
-pub fn parameters_of(s: &[u8], top: usize, at: usize) -> usize
-    requires { (top ≤ at) × (at ≤ length s.now) }
-    ensures { result ≡ length (parameters_in (lex (between top at s.now))) }
-{
-    let f = token_scans::parameter_of(s, top, at, top, top);
-    f.index
 }

@@ -6,10 +6,12 @@ use native.Mathlib.Omega.{arith}
 use native.Mathlib.Numerals.{add-one}
 use lib.ListN.{length, length-append}
 use lib.Seq.{take_all}
-use lib.IntN.{ℤ}
+use lib.IntN.{ℤ, pos}
+use lib.ListN.{set, replicate}
+use Rattle.number.specs.Number.{mark}
 use Rattle.network.specs.Cells.{row, store}
 use Rattle.network.proofs.Stores.{store-on, store-all}
-use Rattle.network.specs.Network.{block_size, network_size, copies, fresh_block, fresh}
+use Rattle.network.specs.Network.{sensors_at, pending_at, block_size, network_size, copies, fresh_block, fresh}
 
 module _ {A : Type 0} where
   -- a turn of a loop that stores a row again and again
@@ -30,6 +32,15 @@ module _ {A : Type 0} where
       rw (e, add-one i) (store-on l at k (copies i r) r (omega arith) ∙ ap (store l at) (copies-more i r))
 
 -- ---- a fresh network
+-- a device's cells when the pending marks to the first k devices are 0
+abbrev pub so_far : ℕ → List ℤ
+so_far zero = set (replicate block_size mark) sensors_at (pos 0)
+so_far (suc k) = set (so_far k) (pending_at 1 + 16 * k) (pos 0)
+
+pub all_marks : so_far 16 ≡ fresh_block
+unfolding copies
+all_marks = refl
+
 pub length-block : length fresh_block ≡ block_size
 unfolding copies
 length-block = refl

@@ -11,7 +11,7 @@ use borrow.Author.Tests.{eq-eqb, ne_eqb, leb-true, leb-false, le-leb, lt-leb}
 use Rattle.notation.specs.Words.{Word, same_word, every, value_from, is_letter, is_digit, name_byte, is_name, operator, is_count, is_negative, is_number, the_inf}
 use Rattle.decide.proofs.Picks.{not-both, both}
 use Rattle.fronts.specs.Fronts.{run, name_front, count_front}
-use Rattle.fronts.proofs.Turns.{value_grows}
+use Rattle.fronts.proofs.Turns.{run_none, run_cons, value_grows}
 
 -- ---- a letter is no digit and no minus
 pub letter-digit : (c : ℕ) → is_letter c ≡ true → is_digit c ≡ false
@@ -87,14 +87,12 @@ count-whole (d ∷ w) h = sym (count-all (d ∷ w) 0 (omega arith))
 
 -- ---- names: the front is the whole word where it is one
 run-all : (f : ℕ → Bool) (v : Word) → every f v ≡ true → run f v ≡ length v
-unfolding run
-run-all f [] e = refl
-run-all f (b ∷ v) e = let h = both (f b) (every f v) e in rw (h.0, run-all f v h.1)
+run-all f [] e = run_none f
+run-all f (b ∷ v) e = let h = both (f b) (every f v) e in rw (run_cons f b v, h.0, run-all f v h.1)
 
 run-part : (f : ℕ → Bool) (v : Word) → every f v ≡ false → run f v < length v
-unfolding run
 run-part f [] e = not-both e
-run-part f (b ∷ v) e = go (f b) e (run-part f v)
+run-part f (b ∷ v) e = rw (run_cons f b v) (go (f b) e (run-part f v))
   where
     go : (a : Bool) → (a && every f v) ≡ false → (every f v ≡ false → run f v < length v) → cond a (suc (run f v)) 0 < suc (length v)
     go true e ih = let h = ih e in omega arith

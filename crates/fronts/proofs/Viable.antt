@@ -15,6 +15,7 @@ use Rattle.notation.proofs.Machine.{Symbol}
 use Rattle.notation.proofs.Finish.{words_of}
 use Rattle.notation.proofs.Rules.{viable}
 use Rattle.fronts.specs.Fronts.{run, name_front, count_front, atom_front, equals_next, function_front}
+use Rattle.fronts.proofs.Turns.{run_none, run_cons}
 use Rattle.fronts.proofs.Classes.{letter-is-not, letter-count, letter-negative, letter-operator, name-letter}
 
 abbrev pub front_of : Class → Word → ℕ
@@ -51,9 +52,8 @@ module _ (f : Word → Bool) (b : ℕ) (l : is_letter b ≡ true) (same : (v : W
   name-end v c e = same (v ++ c ∷ []) ∙ rw (l, every-end name_byte v c, e, length-end v c)
 
   name-rest : (x v : Word) → every name_byte v ≡ true → length v ≤ 15 → passing f (b ∷ v) x ≡ min (15 - length v) (run name_byte x)
-  unfolding run
-  name-rest [] v e h = sym (min-zero (15 - length v))
-  name-rest (c ∷ x) v e h = rw (name-end v c e) (go (name_byte c) (leb (suc (length v)) 15) refl refl (name-rest x (v ++ c ∷ [])))
+  name-rest [] v e h = rw run_none (sym (min-zero (15 - length v)))
+  name-rest (c ∷ x) v e h = rw (name-end v c e, run_cons name_byte c x) (go (name_byte c) (leb (suc (length v)) 15) refl refl (name-rest x (v ++ c ∷ [])))
     where
       go : (p q : Bool) → name_byte c ≡ p → leb (suc (length v)) 15 ≡ q
           → (every name_byte (v ++ c ∷ []) ≡ true → length (v ++ c ∷ []) ≤ 15 → passing f (b ∷ v ++ c ∷ []) x ≡ min (15 - length (v ++ c ∷ [])) (run name_byte x))

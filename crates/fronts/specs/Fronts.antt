@@ -1,11 +1,11 @@
 -- How far a word that is refused still begins one that is allowed. `proofs/Viable.antt` proves that this is what notation's machine finds viable.
 use Rattle.std.specs.Prelude.{Bool, cond, ◌&&◌, [], ◌∷◌, ℕ, suc, ◌+◌, ◌-◌, ◌*◌, min, eqb, leb}
+use Rattle.std.specs.List.{prefix_len}
 use Rattle.notation.specs.Words.{Word, is_letter, is_digit, name_byte, operator}
 
 -- how many bytes of a name lead, one of them a letter and 16 at most
 unfoldable pub run : (ℕ → Bool) → Word → ℕ
-run f [] = 0
-run f (b ∷ w) = cond (f b) (suc (run f w)) 0
+run f w = prefix_len f w
 
 unfoldable pub name_front : Word → ℕ
 name_front [] = 0

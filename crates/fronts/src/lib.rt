@@ -1,157 +1,100 @@
-// How far a word of a text, its bytes a..b, begins one that its place allows: what stands alone, a name to bind, a function or head.
+// How far a word begins one that its place allows: what stands alone, a name to bind, a function or head.
 #![tactic(auto)]
 
 ghost use Rattle.std.specs.Prelude.{◌≡◌, [], ◌∷◌, ◌≤◌, length};
-ghost use Rattle.notation.specs.Words.{between, is_letter, is_digit, name_byte, operator};
-ghost use Rattle.fronts.specs.Fronts.{name_front, count_front, atom_front, equals_next, function_front};
+ghost use Rattle.notation.specs.Words.{is_letter, name_byte, operator};
+ghost use Rattle.fronts.specs.Fronts.{run, name_front, count_front, atom_front, function_front};
 
+// The greatest number, inf.
+const INF: u64 = 2147483647;
+
+// How many bytes a name may have behind its first.
+const MORE: usize = 15;
+
+#[tactic(auto, unfolding(notation::specs::Words::is_letter))]
 pub fn is_letter(b: u8) -> bool
     ensures { result ≡ is_letter b }
 {
-    if b < 97 {
-        return false;
-    }
-    b <= 122
-}
-
-fn is_digit(b: u8) -> bool
-    ensures { result ≡ is_digit b }
-{
-    if b < 48 {
-        return false;
-    }
-    b <= 57
+    b.is_ascii_lowercase()
 }
 
 // Whether a byte may follow the first of a name.
+#[tactic(auto, unfolding(notation::specs::Words::name_byte, notation::specs::Words::is_digit))]
 fn name_byte(b: u8) -> bool
     ensures { result ≡ name_byte b }
 {
-    if is_letter(b) {
-        return true;
-    }
-    if is_digit(b) {
-        return true;
-    }
-    if b == 45 {
-        return true;
-    }
-    b == 42
+    is_letter(b) || b.is_ascii_digit() || b == b'-' || b == b'*'
 }
 
 // Whether a byte alone is an operator.
+#[tactic(auto, unfolding(notation::specs::Words::operator))]
 fn is_sign(b: u8) -> bool
     ensures { result ≡ operator (b ∷ []) }
 {
-    match b {
-        42 => true,
-        43 => true,
-        45 => true,
-        47 => true,
-        60 => true,
-        62 => true,
-        _ => false,
-    }
+    matches!(b, b'+' | b'-' | b'*' | b'/' | b'<' | b'>')
+}
+
+// How many bytes lead that may follow the first of a name.
+#[tactic(auto, unfolding(crate::specs::Fronts::run))]
+fn run(w: &[u8]) -> usize
+    ensures run { result ≡ run name_byte w.now }
+    ensures within { result ≤ length w.now }
+{
+    w.iter().take_while(|b| name_byte(**b)).count()
 }
 
 // How many bytes lead that a name may begin with.
-pub fn name_front(s: &[u8], a: usize, b: usize) -> usize
-    requires { (a ≤ b) × (b ≤ length s.now) }
-    ensures { result ≡ name_front (between a b s.now) }
+#[tactic(auto, unfolding(crate::specs::Fronts::name_front))]
+pub fn name_front(w: &[u8]) -> usize
+    ensures { result ≡ name_front w.now }
 {
-    if a == b {
-        return 0;
+    match w {
+        [first, rest @ ..] if is_letter(*first) => 1 + run(rest).min(MORE),
+        _ => 0,
     }
-    if !is_letter(s[a]) {
-        return 0;
-    }
-    let mut i = a + 1;
-    while i < b {
-        if i - a == 16 {
-            return 16;
-        }
-        if !name_byte(s[i]) {
-            return i - a;
-        }
-        i += 1;
-    }
-    b - a
 }
 
 // How many digits lead before their value passes inf.
-fn count_front(s: &[u8], a: usize, b: usize) -> usize
-    requires { (a ≤ b) × (b ≤ length s.now) }
-    ensures { result ≡ count_front 0 (between a b s.now) }
+#[tactic(auto, unfolding(notation::specs::Words::is_digit))]
+fn count_front(w: &[u8]) -> usize
+    ensures front { result ≡ count_front 0 w.now }
+    ensures within { result ≤ length w.now }
 {
     let mut n: u64 = 0;
-    let mut i = a;
-    while i < b {
-        let d = s[i];
-        if !is_digit(d) {
-            return i - a;
+    for (i, d) in w.iter().enumerate() {
+        if !d.is_ascii_digit() {
+            return i;
         }
-        n = n * 10 + ((d - 48) as u64);
-        if 2147483647 < n {
-            return i - a;
+        n = n * 10 + u64::from(*d - b'0');
+        if n > INF {
+            return i;
         }
-        i += 1;
     }
-    b - a
+    w.len()
 }
 
 // Of what stands alone.
-pub fn atom_front(s: &[u8], a: usize, b: usize) -> usize
-    requires { (a ≤ b) × (b ≤ length s.now) }
-    ensures { result ≡ atom_front (between a b s.now) }
+#[tactic(auto, unfolding(crate::specs::Fronts::atom_front, crate::specs::Fronts::count_front))]
+pub fn atom_front(w: &[u8]) -> usize
+    ensures { result ≡ atom_front w.now }
 {
-    if a == b {
-        return 0;
+    match w {
+        [first, ..] if is_letter(*first) => name_front(w),
+        [b'-', rest @ ..] => 1 + count_front(rest),
+        _ => count_front(w),
     }
-    if is_letter(s[a]) {
-        return name_front(s, a, b);
-    }
-    if s[a] == 45 {
-        return 1 + count_front(s, a + 1, b);
-    }
-    count_front(s, a, b)
 }
 
-// Of an operator's first byte alone, or with the = behind it: a..b is what follows it.
-fn equals_next(s: &[u8], a: usize, b: usize) -> usize
-    requires { (a ≤ b) × (b ≤ length s.now) }
-    ensures { result ≡ equals_next (between a b s.now) }
+// Of functions and heads: >= == != have two bytes, the other operators one.
+#[tactic(auto, unfolding(crate::specs::Fronts::function_front, notation::specs::Words::is_letter))]
+pub fn function_front(w: &[u8]) -> usize
+    ensures { result ≡ function_front w.now }
 {
-    if a == b {
-        return 1;
+    match w {
+        [first, ..] if is_letter(*first) => name_front(w),
+        [b'>' | b'=' | b'!', b'=', ..] => 2,
+        [b'>' | b'=' | b'!', ..] => 1,
+        [first, ..] if is_sign(*first) => 1,
+        _ => 0,
     }
-    if s[a] == 61 {
-        return 2;
-    }
-    1
-}
-
-// Of functions and heads.
-pub fn function_front(s: &[u8], a: usize, b: usize) -> usize
-    requires { (a ≤ b) × (b ≤ length s.now) }
-    ensures { result ≡ function_front (between a b s.now) }
-{
-    if a == b {
-        return 0;
-    }
-    if is_letter(s[a]) {
-        return name_front(s, a, b);
-    }
-    if s[a] == 62 {
-        return equals_next(s, a + 1, b);
-    }
-    if s[a] == 61 {
-        return equals_next(s, a + 1, b);
-    }
-    if s[a] == 33 {
-        return equals_next(s, a + 1, b);
-    }
-    if is_sign(s[a]) {
-        return 1;
-    }
-    0
 }

@@ -1,10 +1,7 @@
--- Where a field of what was heard has a number. Definitions only: nothing is assumed.
-use Rattle.std.specs.Prelude.{Bool, false, not, cond, ℤ, pos}
-use Rattle.number.specs.Number.{mark, eq_z}
+-- The field of sixteen cells of which some hold no number. Definitions only: nothing is assumed.
+use Rattle.std.specs.Prelude.{List, get_or, ℤ, pos}
+use Rattle.field.specs.Field.{devices, from, Field}
+use Rattle.round.specs.Round.{present}
 
--- a cell holds a number; what was heard, v, is 0, and the measure d is there
-abbrev pub is_present : ℤ → Bool
-is_present z = not (eq_z z mark)
-
-abbrev pub is_measured : ℤ → ℤ → Bool
-is_measured v d = cond (eq_z v (pos 0)) (is_present d) false
+abbrev pub present_in : List ℤ → Field
+present_in cells = from 0 devices (λ k. present (get_or cells k (pos 0)))

@@ -4,72 +4,75 @@
 #![tactic(auto)]
 
 ghost use Rattle.std.specs.Prelude.{◌≡◌, ◌+◌, ◌*◌, ◌<◌};
-ghost use Rattle.domain.specs.Held.{held};
-ghost use Rattle.domain.specs.Members.{bit};
+ghost use Rattle.domain.specs.Held.{field_of, held};
 ghost use Rattle.round.specs.Round.{heard_in, measured};
-ghost use Rattle.heard.specs.Present.{is_present, is_measured};
+ghost use Rattle.heard.specs.Present.{present_in};
 ghost use Rattle.heard.specs.Measures.{own_size, cells_from};
 
-use layout::{HEARD, MARK, OWN, ROW};
+use domain::{Domain, Held};
+use layout::{DEVICES, HEARD, LAGS, MARK, OWN, ROW};
 
-// A domain's highest bit, where a cell is not absent; where a device is heard with 0 and its measure is there.
-fn bit_of(v: i32) -> u16
-    ensures { result ≡ bit (is_present v) }
-{
-    if v == MARK {
-        return 0;
-    }
-    32768
+// Where a measure stands: that of device 1 in the cell `from`, that of each next device `by` cells on.
+#[derive(Clone, Copy)]
+pub struct Measure {
+    pub from: usize,
+    pub by: usize,
+    ghost inside: { from + by * 15 < own_size },
 }
 
-fn bit_in(v: i32, d: i32) -> u16
-    ensures { result ≡ bit (is_measured v d) }
+impl Measure {
+    // What nbr-range asks for, and nbr-lag.
+    pub const DISTANCE: Measure = Measure {
+        from: HEARD,
+        by: ROW,
+    };
+
+    pub const AGE: Measure = Measure { from: LAGS, by: 1 };
+}
+
+// The domain of the cells that are not absent. Each cell's bit comes in at the top and moves down by one with each next.
+#[tactic(auto, using(crate::proofs::Fields::filled))]
+fn present(cells: &[i32; DEVICES]) -> Domain
+    ensures { field_of result.bits cells.now ≡ present_in cells.now }
 {
-    if v == 0 {
-        return bit_of(d);
+    let mut bits: u16 = 0;
+    for v in cells {
+        bits = bits / 2 + if *v == MARK { 0 } else { 0x8000 };
     }
-    0
+    Domain { bits }
 }
 
 // The field of the devices heard in a slot.
-pub fn heard_of(here: &[i32; OWN], slot: usize) -> domain::Held
+#[tactic(auto, using(crate::proofs::Fields::filled))]
+pub fn heard_of(here: &[i32; OWN], slot: usize) -> Held
     requires { slot < 16 }
     ensures { held result ≡ heard_in here.now slot }
 {
-    let z: i32 = 0;
-    let mut cells = [z; 16];
-    let mut dom: u16 = 0;
-    let mut b: usize = 0;
-    while b < 16 {
-        let v = here[HEARD + ROW * b + slot];
-        cells[b] = v;
-        dom = dom / 2 + bit_of(v);
-        b += 1;
+    let mut cells = [MARK; DEVICES];
+    for b in 0..DEVICES {
+        cells[b] = here[HEARD + ROW * b + slot];
     }
-    domain::Held {
-        cells: cells,
-        dom: domain::Domain { bits: dom },
+    Held {
+        dom: present(&cells),
+        cells,
     }
 }
 
-// The field of a measure, for the devices heard with 0 in a slot: that of device 1 + b stands `by` cells behind that of b, the first at `from`.
-pub fn measured(here: &[i32; OWN], slot: usize, from: usize, by: usize) -> domain::Held
-    requires { (slot < 16) × (from + by * 15 < own_size) }
-    ensures { held result ≡ measured (cells_from from by) here.now slot }
+// The field of a measure, for the devices heard with 0 in a slot.
+#[tactic(auto, using(crate::proofs::Fields::filled))]
+pub fn measured(here: &[i32; OWN], slot: usize, measure: Measure) -> Held
+    requires { slot < 16 }
+    ensures { held result ≡ measured (cells_from measure.from measure.by) here.now slot }
 {
-    let z: i32 = 0;
-    let mut cells = [z; 16];
-    let mut dom: u16 = 0;
-    let mut b: usize = 0;
-    while b < 16 {
-        let v = here[HEARD + ROW * b + slot];
-        let d = here[from + by * b];
-        cells[b] = d;
-        dom = dom / 2 + bit_in(v, d);
-        b += 1;
+    let mut cells = [MARK; DEVICES];
+    for b in 0..DEVICES {
+        // Both are read, so that the choice needs no jump.
+        let heard = here[HEARD + ROW * b + slot];
+        let number = here[measure.from + measure.by * b];
+        cells[b] = if heard == 0 { number } else { MARK };
     }
-    domain::Held {
-        cells: cells,
-        dom: domain::Domain { bits: dom },
+    Held {
+        dom: present(&cells),
+        cells,
     }
 }

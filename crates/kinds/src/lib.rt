@@ -1,286 +1,199 @@
-// Reads a node, kind by kind: the first of the refusals 1 to 5 that holds, 0 where none does, and the node.
+// Reads a node, kind by kind, from the bytes behind its kind: the first of the refusals 1 to 5 that holds, or the node.
 #![tactic(auto)]
 
-ghost use Rattle.std.specs.Prelude.{◌≡◌, Bool, List, ℕ, ◌<◌, ◌≤◌, length, get_or};
+ghost use Rattle.std.specs.Prelude.{◌≡◌, Bool, List, ℕ, ◌+◌, ◌<◌, ◌≤◌, ◌∷◌, length, get_or, drop, MatchResult};
 ghost use Rattle.program.specs.Table.{node_limit};
 ghost use Rattle.shapes.specs.Shapes.{byte_values, no_item, operator_item, slot_item};
-ghost use Rattle.shapes.specs.Kinds.{constant_kind, parameter_kind, variable_kind, sense_kind, rep_kind, nbr_kind, fold_by_kind, call_kind};
+ghost use Rattle.shapes.specs.Kinds.{number_of, constant_kind, rep_kind, fold_by_kind, call_kind};
 ghost use Rattle.kinds.specs.Taken.{taken_of};
-ghost use Rattle.kinds.specs.Reads.{Form, read_of, ReadsNode, ReadsLeaf, ReadsKids, ReadsSlot, ReadsSlotOnly, ReadsKept};
+ghost use Rattle.kinds.specs.Reads.{Form, Limited, node_with, ReadsNode, ReadsLeaf, ReadsKids, ReadsSlot, ReadsKept};
 
-// Number 0: the node that was read. Else the refusal.
-#[derive(Drop)]
-pub struct Read {
-    pub number: u32,
-    pub node: nodes::Node,
-}
+use nodes::{Node, get};
+use shapes::Kind;
+use verdict::Reason;
 
-// A refusal.
-pub fn no_node(number: u32) -> Read
-    ensures { result.number ≡ number }
+// Operators are 0 to 8, parameters 0 to 3, variables 0 to 15, slots 1 to 15.
+pub const OPERATORS: u8 = 9;
+
+pub const PARAMETERS: u8 = 4;
+
+pub const VARIABLES: u8 = 16;
+
+pub const SLOTS: u8 = 16;
+
+// The item that stands first, and that many children behind it.
+fn parts(s: &[u8], kids: usize) -> Result<(u8, &[u8]), Reason>
+    ensures { MatchResult result (λ p. (p.0 ≡ get_or s.now 0 0) × (p.1.now ≡ drop 1 s.now) × (length s.now ≡ 1 + kids)) (λ e. (e ≡ Reason.BadField) × (length s.now ≡ 1 + kids → ⊥)) }
 {
-    Read {
-        number: number,
-        node: nodes::none(),
+    match s {
+        [item, children @ ..] if children.len() == kids => Ok((*item, children)),
+        _ => Err(Reason::BadField),
     }
 }
 
-// A node without a constant, where the number is 0.
-fn given(number: u32, kind: u8, item: u8, kids: u8, a: u8, b: u8, c: u8) -> Read
-    ensures { result ≡ read_of number kind item kids a b c }
+// A node without a constant.
+fn node(kind: Kind, item: u8, children: &[u8]) -> Node
+    requires { length children.now ≤ 4 }
+    ensures { result ≡ node_with kind item children.now }
 {
-    Read {
-        number: number,
-        node: nodes::Node {
-            kind: kind,
-            item: item,
-            kids: kids,
-            a: a,
-            b: b,
-            c: c,
-            d: 0,
-            constant: 0,
-        },
+    Node {
+        kind,
+        item,
+        kids: children.len() as u8,
+        children: [
+            get(children, 0),
+            get(children, 1),
+            get(children, 2),
+            get(children, 3),
+        ],
+        constant: 0,
     }
 }
 
 // A constant, not the mark.
-pub fn constant(b: &[u8]) -> Read
-    requires { get_or b.now 0 0 ≡ constant_kind }
-    ensures { ReadsLeaf b.now result }
+pub fn constant(s: &[u8]) -> Result<Node, Reason>
+    ensures { ReadsLeaf constant_kind s.now result }
 {
-    if b.len() != 5 {
-        return no_node(1);
+    let [b3, b2, b1, b0] = s else {
+        return Err(Reason::BadField);
+    };
+    let constant = wire_reader::be32([*b3, *b2, *b1, *b0]);
+    if constant == layout::MARK_BITS {
+        return Err(Reason::OutOfRange);
     }
-    let c = wire_reader::be32(b[1], b[2], b[3], b[4]);
-    if c == layout::MARK_BITS {
-        return no_node(3);
-    }
-    Read {
-        number: 0,
-        node: nodes::Node {
-            kind: shapes::CONSTANT,
-            item: 0,
-            kids: 0,
-            a: 0,
-            b: 0,
-            c: 0,
-            d: 0,
-            constant: c,
-        },
-    }
+    Ok(Node {
+        constant,
+        ..nodes::none()
+    })
 }
 
-// A parameter.
-pub fn parameter(b: &[u8]) -> Read
-    requires { get_or b.now 0 0 ≡ parameter_kind }
-    ensures { ReadsLeaf b.now result }
+// A parameter or a variable, below the limit.
+pub fn numbered(kind: Kind, limit: u8, s: &[u8]) -> Result<Node, Reason>
+    requires { Limited (number_of kind) limit }
+    ensures { ReadsLeaf (number_of kind) s.now result }
 {
-    if b.len() != 2 {
-        return no_node(1);
+    let (item, children) = parts(s, 0)?;
+    if limit <= item {
+        return Err(Reason::OutOfRange);
     }
-    let item = b[1];
-    if 4 <= item {
-        return no_node(3);
-    }
-    given(0, shapes::PARAMETER, item, 0, 0, 0, 0)
-}
-
-// A variable.
-pub fn variable(b: &[u8]) -> Read
-    requires { get_or b.now 0 0 ≡ variable_kind }
-    ensures { ReadsLeaf b.now result }
-{
-    if b.len() != 2 {
-        return no_node(1);
-    }
-    let read = b[1];
-    if 16 <= read {
-        return no_node(3);
-    }
-    given(0, shapes::VARIABLE, read, 0, 0, 0, 0)
+    Ok(node(kind, item, children))
 }
 
 // An operator, or a fold by one: two children.
-pub fn operator(kind: u8, b: &[u8], n: usize, named: &mut [bool; layout::NODES]) -> Read
-    requires { (get_or b.now 0 0 ≡ kind) × Form kind operator_item 1 2 × (n < node_limit) × (length named.old ≡ node_limit) }
-    ensures { ReadsKids b.now n named.old result named.new }
+pub fn operator(
+    kind: Kind,
+    s: &[u8],
+    n: usize,
+    named: &mut [bool; layout::NODES],
+) -> Result<Node, Reason>
+    requires { Form (number_of kind) operator_item 1 2 × (n < node_limit) × (length named.old ≡ node_limit) }
+    ensures { ReadsKids (number_of kind) s.now n named.old result named.new }
 {
-    if b.len() != 4 {
-        return no_node(1);
+    let (item, children) = parts(s, 2)?;
+    if OPERATORS <= item {
+        return Err(Reason::OutOfRange);
     }
-    let item = b[1];
-    if 9 <= item {
-        return no_node(3);
-    }
-    let x = b[2];
-    let y = b[3];
-    let e = taken::two_children(x, y, n, named);
-    given(e, kind, item, 2, x, y, 0)
+    taken::children(children, n, named)?;
+    Ok(node(kind, item, children))
 }
 
-// Sense, one child.
-pub fn sense(b: &[u8], n: usize, named: &mut [bool; layout::NODES]) -> Read
-    requires { (get_or b.now 0 0 ≡ sense_kind) × (n < node_limit) × (length named.old ≡ node_limit) }
-    ensures { ReadsKids b.now n named.old result named.new }
+// Sense, one child; if and mux, three.
+pub fn plain(
+    kind: Kind,
+    kids: usize,
+    s: &[u8],
+    n: usize,
+    named: &mut [bool; layout::NODES],
+) -> Result<Node, Reason>
+    requires { Form (number_of kind) no_item 0 kids × (kids ≤ 4) × (n < node_limit) × (length named.old ≡ node_limit) }
+    ensures { ReadsKids (number_of kind) s.now n named.old result named.new }
 {
-    if b.len() != 2 {
-        return no_node(1);
+    if s.len() != kids {
+        return Err(Reason::BadField);
     }
-    let x = b[1];
-    let e = taken::one_child(x, n, named);
-    given(e, shapes::SENSE, 0, 1, x, 0, 0)
+    taken::children(s, n, named)?;
+    Ok(node(kind, 0, s))
 }
 
 // The variable that a rep keeps, and two children.
 pub fn rep(
-    b: &[u8],
+    s: &[u8],
     n: usize,
     named: &mut [bool; layout::NODES],
     kept: &mut [bool; layout::BYTES],
-) -> Read
-    requires { (get_or b.now 0 0 ≡ rep_kind) × (n < node_limit) × (length named.old ≡ node_limit) × (length kept.old ≡ byte_values) }
-    ensures { ReadsKept b.now n named.old kept.old result named.new kept.new }
+) -> Result<Node, Reason>
+    requires { (n < node_limit) × (length named.old ≡ node_limit) × (length kept.old ≡ byte_values) }
+    ensures { ReadsKept rep_kind s.now n named.old kept.old result named.new kept.new }
 {
-    if b.len() != 4 {
-        return no_node(1);
+    let (variable, children) = parts(s, 2)?;
+    if VARIABLES <= variable {
+        return Err(Reason::OutOfRange);
     }
-    let keeps = b[1];
-    if 16 <= keeps {
-        return no_node(3);
-    }
-    let x = b[2];
-    let y = b[3];
-    let e = taken::two_children(x, y, n, named);
-    if e != 0 {
-        return no_node(e);
-    }
-    if taken::take(true, keeps, kept) {
-        return no_node(5);
-    }
-    given(0, shapes::REP, keeps, 2, x, y, 0)
+    taken::children(children, n, named)?;
+    taken::take(variable, kept)?;
+    Ok(node(Kind::Rep, variable, children))
 }
 
-// If and mux, three children.
-pub fn choice(kind: u8, b: &[u8], n: usize, named: &mut [bool; layout::NODES]) -> Read
-    requires { (get_or b.now 0 0 ≡ kind) × Form kind no_item 0 3 × (n < node_limit) × (length named.old ≡ node_limit) }
-    ensures { ReadsKids b.now n named.old result named.new }
-{
-    if b.len() != 4 {
-        return no_node(1);
-    }
-    let x = b[1];
-    let y = b[2];
-    let z = b[3];
-    let e = taken::three_children(x, y, z, n, named);
-    given(e, kind, 0, 3, x, y, z)
-}
-
-// Nbr: a slot, and one child.
-pub fn nbr(
-    b: &[u8],
+// A slot: of an nbr, with one child, or of an nbr-range or an nbr-lag.
+pub fn slotted(
+    kind: Kind,
+    kids: usize,
+    s: &[u8],
     n: usize,
     named: &mut [bool; layout::NODES],
     slots: &mut [bool; layout::BYTES],
-) -> Read
-    requires { (get_or b.now 0 0 ≡ nbr_kind) × (n < node_limit) × (length named.old ≡ node_limit) × (length slots.old ≡ byte_values) }
-    ensures { ReadsSlot b.now n named.old slots.old result named.new slots.new }
+) -> Result<Node, Reason>
+    requires { Form (number_of kind) slot_item 1 kids × (kids < 4) × (n < node_limit) × (length named.old ≡ node_limit) × (length slots.old ≡ byte_values) }
+    ensures { ReadsSlot (number_of kind) s.now n named.old slots.old result named.new slots.new }
 {
-    if b.len() != 3 {
-        return no_node(1);
+    let (slot, children) = parts(s, kids)?;
+    if slot == 0 || SLOTS <= slot {
+        return Err(Reason::OutOfRange);
     }
-    let slot = b[1];
-    if slot == 0 {
-        return no_node(3);
-    }
-    if 16 <= slot {
-        return no_node(3);
-    }
-    let x = b[2];
-    let e = taken::one_child(x, n, named);
-    if e != 0 {
-        return no_node(e);
-    }
-    if taken::take(true, slot, slots) {
-        return no_node(5);
-    }
-    given(0, shapes::NBR, slot, 1, x, 0, 0)
-}
-
-// The slot of an nbr-range or an nbr-lag.
-pub fn measure(kind: u8, b: &[u8], slots: &mut [bool; layout::BYTES]) -> Read
-    requires { (get_or b.now 0 0 ≡ kind) × Form kind slot_item 1 0 × (length slots.old ≡ byte_values) }
-    ensures { ReadsSlotOnly b.now slots.old result slots.new }
-{
-    if b.len() != 2 {
-        return no_node(1);
-    }
-    let item = b[1];
-    if item == 0 {
-        return no_node(3);
-    }
-    if 16 <= item {
-        return no_node(3);
-    }
-    if taken::take(true, item, slots) {
-        return no_node(5);
-    }
-    given(0, kind, item, 0, 0, 0, 0)
+    taken::children(children, n, named)?;
+    taken::take(slot, slots)?;
+    Ok(node(kind, slot, children))
 }
 
 // The definition that a fold is by, and two children.
-pub fn fold_by(b: &[u8], n: usize, defs: usize, named: &mut [bool; layout::NODES]) -> Read
-    requires { (get_or b.now 0 0 ≡ fold_by_kind) × (n < node_limit) × (length named.old ≡ node_limit) }
-    ensures { (counts : List ℕ) (slots kept : List Bool) → ReadsNode b.now n defs counts (taken_of named.old slots kept) result (taken_of named.new slots kept) }
+pub fn fold_by(
+    s: &[u8],
+    n: usize,
+    defs: usize,
+    named: &mut [bool; layout::NODES],
+) -> Result<Node, Reason>
+    requires { (n < node_limit) × (length named.old ≡ node_limit) }
+    ensures { (counts : List ℕ) (slots kept : List Bool) → ReadsNode (fold_by_kind ∷ s.now) n defs counts (taken_of named.old slots kept) result (taken_of named.new slots kept) }
 {
-    if b.len() != 4 {
-        return no_node(1);
+    let (definition, children) = parts(s, 2)?;
+    if defs <= usize::from(definition) {
+        return Err(Reason::NotGiven);
     }
-    let item = b[1];
-    if defs <= item as usize {
-        return no_node(4);
-    }
-    let x = b[2];
-    let y = b[3];
-    let e = taken::two_children(x, y, n, named);
-    given(e, shapes::FOLD_BY, item, 2, x, y, 0)
+    taken::children(children, n, named)?;
+    Ok(node(Kind::FoldBy, definition, children))
 }
 
 // A call: a definition, and as many children as it has parameters.
 pub fn call(
-    b: &[u8],
+    s: &[u8],
     n: usize,
     defs: usize,
     counts: &[u8; layout::BYTES],
     named: &mut [bool; layout::NODES],
-) -> Read
-    requires { (get_or b.now 0 0 ≡ call_kind) × (n < node_limit) × (length named.old ≡ node_limit) × ((d : ℕ) → d < defs → get_or counts.now d 0 ≤ 4) }
-    ensures { (slots kept : List Bool) → ReadsNode b.now n defs counts.now (taken_of named.old slots kept) result (taken_of named.new slots kept) }
+) -> Result<Node, Reason>
+    requires { (n < node_limit) × (length named.old ≡ node_limit) × ((d : ℕ) → d < defs → get_or counts.now d 0 ≤ 4) }
+    ensures { (slots kept : List Bool) → ReadsNode (call_kind ∷ s.now) n defs counts.now (taken_of named.old slots kept) result (taken_of named.new slots kept) }
 {
-    if b.len() < 2 {
-        return no_node(1);
-    }
-    let d = b[1];
-    if defs <= d as usize {
-        return no_node(4);
-    }
-    let k = counts[d as usize];
-    if b.len() != 2 + k as usize {
-        return no_node(1);
-    }
-    if k == 0 {
-        return given(0, shapes::CALL, d, 0, 0, 0, 0);
-    }
-    let x = nodes::Node {
-        kind: shapes::CALL,
-        item: d,
-        kids: k,
-        a: nodes::get(b, 2),
-        b: nodes::get(b, 3),
-        c: nodes::get(b, 4),
-        d: nodes::get(b, 5),
-        constant: 0,
+    let [definition, children @ ..] = s else {
+        return Err(Reason::BadField);
     };
-    let e = taken::children(x, n, named);
-    Read { number: e, node: x }
+    let d = usize::from(*definition);
+    if defs <= d {
+        return Err(Reason::NotGiven);
+    }
+    if children.len() != usize::from(counts[d]) {
+        return Err(Reason::BadField);
+    }
+    taken::children(children, n, named)?;
+    Ok(node(Kind::Call, *definition, children))
 }

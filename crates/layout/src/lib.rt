@@ -51,9 +51,6 @@ pub const OLDEST: i32 = FADES_AT - 1;
 // A program's nodes.
 pub const NODES: usize = 256;
 
-// What a search for a node answers where there is none.
-pub const NO_NODE: u16 = NODES as u16;
-
 // Its definitions, at most.
 pub const DEFINITIONS: usize = 32;
 

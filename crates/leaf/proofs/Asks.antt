@@ -81,14 +81,6 @@ by-operator (inl z) h g = absurd (h z)
 by-operator (inr (inl z)) h g = absurd (g z)
 by-operator (inr (inr z)) h g = z
 
--- what is no leaf and of none of number_at's forms is one of other_at's
-pub is-other : {k f : ℕ} → k ≡ f → f < number_forms → leaf_forms ≤ k → (k ≡ operator_form → ⊥) → (k ≡ if_form → ⊥) → (k ≡ call_form → ⊥) → (k ≡ pair_form → ⊥)
-    → (leaf_forms ≤ f) × (f % 3 ≡ 0 → ⊥)
-is-other {k} {f} e h l a b c d = (rw (← e) l, λ m. by_three f h (rw (← e) l) m (λ q. a (e ∙ q)) (λ q. b (e ∙ q)) (λ q. c (e ∙ q)) (λ q. d (e ∙ q)))
-  where
-    by_three : (f : ℕ) → f < number_forms → leaf_forms ≤ f → f % 3 ≡ 0 → (f ≡ operator_form → ⊥) → (f ≡ if_form → ⊥) → (f ≡ call_form → ⊥) → (f ≡ pair_form → ⊥) → ⊥
-    by_three f h l m a b c d = omega arith
-
 -- what is left of other_at's forms is a fold
 pub is-fold : {k f : ℕ} → k ≡ f → f < number_forms → leaf_forms ≤ f → (f % 3 ≡ 0 → ⊥) → (k ≡ sense_form → ⊥) → (k ≡ rep_form → ⊥) → (k ≡ mux_form → ⊥) → Folding f
 is-fold {k} {f} e h l m a b c = go (eqb f least_form) (eqb f fold_by_form) refl refl

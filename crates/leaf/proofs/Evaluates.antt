@@ -1,5 +1,5 @@
 -- What evaluating node n does, by its form, over a sound table. Assumes nothing.
-use mathlib.Core.Path.{◌≡◌, refl, sym, ap, ◌∙◌}
+use mathlib.Core.Path.{◌≡◌, refl, ap, ◌∙◌}
 use mathlib.Core.Bool.{Bool, true, false, cond}
 use mathlib.Core.List.{List, [], ◌∷◌}
 use mathlib.Core.Logic.{inl, inr}
@@ -7,8 +7,8 @@ use mathlib.Core.Option.{none, some}
 use Prim.Native.Nat.{ℕ, ◌≤◌, ◌<◌}
 use lib.ListN.{get_or}
 use native.Mathlib.Omega.{arith}
-use lib.Dec.{eqb, ltb}
-use borrow.Author.Tests.{lt-ltb, eqb-true, eqb-false}
+use lib.Dec.{ltb}
+use borrow.Author.Tests.{lt-ltb}
 use lib.IntN.{ℤ, pos}
 use Rattle.number.specs.Number.{operator_of, eq_z, mark}
 use Rattle.field.specs.Field.{Field}
@@ -181,21 +181,17 @@ module _ {ws us : List ℕ} {st : List ℤ} {n : ℕ} (q : IsField ws us st n) (
   unfolding eval
   ev-range z o eo = rw eo (ap (λ (x : Expr). eval here x env s) (tree-range ws n z))
 
-  ev-lag : form (word ws n) ≡ lag_form → (o : ℕ) → o ≡ item (word ws n) → ev ws n here env s ≡ done (field (lag_in here o)) (sending o (pos 0) s)
+  pub ev-lag : form (word ws n) ≡ lag_form → (o : ℕ) → o ≡ item (word ws n) → ev ws n here env s ≡ done (field (lag_in here o)) (sending o (pos 0) s)
   unfolding eval
   ev-lag z o eo = rw eo (ap (λ (x : Expr). eval here x env s) (tree-lag ws n z))
 
-  -- what is no nbr, no if and no operator is an nbr-lag or else an nbr-range
-  pub ev-measure : (k o : ℕ) → k ≡ form (word ws n) → o ≡ item (word ws n) → (k ≡ nbr_form → ⊥) → (k ≡ field_if_form → ⊥) → (k ≡ field_operator_form → ⊥)
-      → ev ws n here env s ≡ done (field (cond (eqb k lag_form) (lag_in here o) (range_in here o))) (sending o (pos 0) s)
-  ev-measure k o ek eo nb fi op = go (eqb k lag_form) refl
+  -- what is no nbr, no nbr-lag, no if and no operator is an nbr-range
+  pub ev-ranged : (k o : ℕ) → k ≡ form (word ws n) → o ≡ item (word ws n) → (k ≡ nbr_form → ⊥) → (k ≡ lag_form → ⊥) → (k ≡ field_if_form → ⊥) → (k ≡ field_operator_form → ⊥)
+      → ev ws n here env s ≡ done (field (range_in here o)) (sending o (pos 0) s)
+  ev-ranged k o ek eo nb lg fi op = ev-range (is-range k _ ek q.sort (field-rules q).known nb lg fi op) o eo
     where
       is-range : (k f : ℕ) → k ≡ f → field_forms ≤ f → f < forms → (k ≡ nbr_form → ⊥) → (k ≡ lag_form → ⊥) → (k ≡ field_if_form → ⊥) → (k ≡ field_operator_form → ⊥) → f ≡ range_form
       is-range k f e l h p q r t = omega arith
-
-      go : (b : Bool) → eqb k lag_form ≡ b → ev ws n here env s ≡ done (field (cond b (lag_in here o) (range_in here o))) (sending o (pos 0) s)
-      go true b = ev-lag (sym ek ∙ eqb-true k lag_form b) o eo
-      go false b = ev-range (is-range k _ ek q.sort (field-rules q).known nb (eqb-false k lag_form b) fi op) o eo
 
   pub ev-iff : form (word ws n) ≡ field_if_form → (a b c : ℕ) → a ≡ p1 (word ws n) → b ≡ p2 (word ws n) → c ≡ p3 (word ws n)
       → ev ws n here env s ≡ then_number (ev ws a here env s) (λ x s1. cond (is_true x)

@@ -1,7 +1,6 @@
-pub mod Steps
-pub mod Forms
 pub mod Table
 pub mod Moves
-pub mod Held
+pub mod Steps
+pub mod Forms
 pub mod Laws
 pub mod Shown

@@ -5,9 +5,10 @@ use mathlib.Core.Option.{some}
 use Prim.Native.Nat.{ℕ}
 use Rattle.notation.specs.Words.{ascii, index_of, is_letter, is_digit, name_byte, is_name, reserved, own_name, operator, is_count, is_negative, is_number}
 use Rattle.notation.specs.Grammar.{Token, opening, closing, word}
+use Rattle.lexemes.specs.declared.Kind.TheVariants.{Opening, Closing, Word}
 use Rattle.vocabulary.specs.Codes.{code_of}
 use Rattle.fronts.specs.Fronts.{run, name_front, count_front, atom_front, function_front}
-use Rattle.levels.specs.Levels.{refusal, move_of, move, levels_at, put_at, level_in, advanced, judged, kind_front}
+use Rattle.levels.specs.Levels.{refusal, move_of, move, levels_at, put_at, level_in, advanced, judged, level_front}
 
 -- behind an opening bracket def heads a definition in an outermost form only; behind four parameters no fifth stands
 heads-shown : (move_of 3 9 ≡ 18) × (move_of 2 9 ≡ refusal) × (move_of 2 11 ≡ 9) × (move_of 2 19 ≡ 4)
@@ -32,7 +33,8 @@ unfolding move move_of
 define-shown = refl
 
 -- of a refused word: two letters of a name, the digits of a number, none where a bracket must stand
-fronts-shown : (kind_front 9 3 (ascii "ab#") ≡ 2) × (kind_front 4 3 (ascii "12x") ≡ 2) × (kind_front 10 3 (ascii ">=x") ≡ 2) × (kind_front 5 3 (ascii "ab") ≡ 0) × (kind_front 4 1 (ascii "(") ≡ 0)
+fronts-shown : (level_front 9 (word (ascii "ab#")) ≡ 2) × (level_front 4 (word (ascii "12x")) ≡ 2) × (level_front 10 (word (ascii ">=x")) ≡ 2)
+    × (level_front 5 (word (ascii "ab")) ≡ 0) × (level_front 4 opening ≡ 0)
 unfolding atom_front name_front function_front count_front run is_letter is_digit name_byte
 fronts-shown = (refl, refl, refl, refl, refl)
 
@@ -43,8 +45,8 @@ four = 0 ∷ 1 ∷ 2 ∷ 3 ∷ []
 window-shown : (level_in 2 1 four ≡ 18) × (level_in 2 4 four ≡ 2) × (level_in 0 4096 four ≡ 18) × (put_at 2 1 7 four ≡ four) × (put_at 2 4 7 four ≡ 0 ∷ 1 ∷ 7 ∷ 3 ∷ [])
 window-shown = (refl, refl, refl, refl, refl)
 
-advanced-shown : (advanced 0 1 1 4 4 four ≡ 0 ∷ 4 ∷ 2 ∷ 3 ∷ []) × (advanced 0 1 2 5 30 four ≡ four) × (advanced 0 1 3 3 18 four ≡ 0 ∷ 11 ∷ 2 ∷ 3 ∷ [])
+advanced-shown : (advanced 0 1 Opening 4 4 four ≡ 0 ∷ 4 ∷ 2 ∷ 3 ∷ []) × (advanced 0 1 Closing 5 30 four ≡ four) × (advanced 0 1 Word 3 18 four ≡ 0 ∷ 11 ∷ 2 ∷ 3 ∷ [])
 advanced-shown = (refl, refl, refl)
 
-unheld-shown : judged 18 1 (ascii "(") ≡ 0
+unheld-shown : judged 18 Opening (ascii "(") ≡ 0
 unheld-shown = refl

@@ -1,10 +1,12 @@
 -- The stack machine of notation's proofs as numbers: what is still to come at each level of brackets, and how a token moves it. `proofs/Steps.antt` proves that it is the same machine.
-use Rattle.std.specs.Prelude.{◌≡◌, Bool, true, cond, ◌&&◌, ◌||◌, List, [], ◌∷◌, ◌++◌, ◌⊎◌, ℕ, suc, ◌+◌, ◌-◌, ◌≤◌, ◌<◌, length, get_or, set, eqb, leb, ltb}
+use Rattle.std.specs.Prelude.{◌≡◌, Bool, true, cond, ◌&&◌, ◌||◌, List, [], ◌∷◌, ◌++◌, ◌⊎◌, ℕ, suc, ◌-◌, ◌≤◌, ◌<◌, length, get_or, set, eqb, leb, ltb}
 use Rattle.std.proofs.Math.Option.{Option, none, some}
-use Rattle.notation.specs.Words.{Word, an_expression, a_binder, a_function}
+use Rattle.notation.specs.Words.{an_expression, a_binder, a_function}
 use Rattle.notation.specs.Grammar.{Token, opening, closing, word}
 use Rattle.notation.proofs.Machine.{Symbol, item, head, many, shut, program, form_head, list, params}
-use Rattle.lexemes.specs.Lexeme.{token_by}
+use Rattle.lexemes.specs.declared.Kind.{Kind}
+use Rattle.lexemes.specs.declared.Kind.TheVariants.{Opening, Closing, Word}
+use Rattle.lexemes.specs.Lexeme.{token_by, depth_by}
 use Rattle.vocabulary.specs.Codes.{token_code}
 use Rattle.fronts.specs.Fronts.{name_front, atom_front, function_front}
 
@@ -112,7 +114,7 @@ classes = 1 ∷ 0 ∷ 3 ∷ 3 ∷ 1 ∷ 0 ∷ 1 ∷ 1 ∷ 1 ∷ 2 ∷ 3 ∷ 2 �
 abbrev pub class_of : ℕ → ℕ
 class_of c = get_or classes c 0
 
-abbrev pub class_front : ℕ → Word → ℕ
+abbrev pub class_front : ℕ → List ℕ → ℕ
 class_front k w = cond (eqb k 1) (atom_front w) (cond (eqb k 2) (name_front w) (cond (eqb k 3) (function_front w) 0))
 
 abbrev pub level_front : ℕ → Token → ℕ
@@ -138,19 +140,15 @@ put_at base depth c arr = cond (held_at base depth) (set arr (depth - base) c) a
 abbrev pub level_in : ℕ → ℕ → List ℕ → ℕ
 level_in base depth arr = cond (held_at base depth) (get_or arr (depth - base) 0) unheld
 
--- the array behind a token of that kind (1 and 2 brackets, 3 a word) and move, at a level of number c
-abbrev pub advanced : ℕ → ℕ → ℕ → ℕ → ℕ → List ℕ → List ℕ
-advanced base depth kind c m arr =
-    cond (eqb kind 1) (put_at base (suc depth) (inner c) (put_at base depth m arr))
-    (cond (eqb kind 2) arr
-    (cond (eqb m 18) (put_at base 0 0 (put_at base depth 11 arr)) (put_at base depth m arr)))
+-- the array behind a token of that kind and move, at a level of number c
+abbrev pub advanced : ℕ → ℕ → Kind → ℕ → ℕ → List ℕ → List ℕ
+advanced base depth Opening c m arr = put_at base (suc depth) (inner c) (put_at base depth m arr)
+advanced base depth Closing c m arr = arr
+advanced base depth Word c m arr = cond (eqb m 18) (put_at base 0 0 (put_at base depth 11 arr)) (put_at base depth m arr)
 
--- a token by its kind and bytes: the move that a pass makes, how much of it is shared where it is refused
-abbrev pub judged : ℕ → ℕ → Word → ℕ
+-- the move that a pass makes at a token of that kind with those bytes, 0 on a level that is not held
+abbrev pub judged : ℕ → Kind → List ℕ → ℕ
 judged c kind w = cond (eqb c unheld) 0 (move_of c (token_code (token_by kind w)))
-
-abbrev pub kind_front : ℕ → ℕ → Word → ℕ
-kind_front c kind w = cond (eqb kind 3) (class_front (class_of c) w) 0
 
 -- every number in the array is a level's
 abbrev pub Numbered : List ℕ → Type 0
@@ -159,3 +157,15 @@ Numbered arr = (i : ℕ) → get_or arr i 0 < 18
 -- the first window begins at 0, the others behind a whole one
 abbrev pub Based : ℕ → Type 0
 Based base = (base ≡ 0) ⊎ (window ≤ base)
+
+-- Behind a token that a window takes: the depth and the array. Of one that it refuses, how much is shared: it has no move, or closes a bracket where none is open
+abbrev pub Takes : ℕ → ℕ → Kind → List ℕ → List ℕ → List ℕ → ℕ → Type 0
+Takes base depth kind w arr arr' d =
+    let c : ℕ = level_in base depth arr in
+    let m : ℕ = judged c kind w in
+    (m ≡ refusal → ⊥) × (kind ≡ Closing → 0 < depth) × (d ≡ depth_by depth kind) × (arr' ≡ advanced base depth kind c m arr)
+
+abbrev pub Refuses : ℕ → ℕ → Kind → List ℕ → List ℕ → ℕ → Type 0
+Refuses base depth kind w arr n =
+    let c : ℕ = level_in base depth arr in
+    ((judged c kind w ≡ refusal) × (n ≡ level_front c (token_by kind w))) ⊎ ((kind ≡ Closing) × (depth ≡ 0) × (n ≡ 0))

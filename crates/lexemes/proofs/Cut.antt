@@ -5,7 +5,6 @@ use mathlib.Core.List.{List, [], ◌∷◌, ◌++◌, reverse, reverse-cons, rev
 use mathlib.Core.Logic.{◌⊎◌, inl, inr}
 use Prim.Native.Nat.{ℕ, suc, ◌+◌, ◌<◌}
 use native.Mathlib.Omega.{arith}
-use lib.Dec.{eqb}
 use lib.ListN.{length, take, drop}
 use Rattle.notation.specs.Words.{Word}
 use Rattle.notation.specs.Grammar.{Token, opening, closing, word}
@@ -13,7 +12,8 @@ use Rattle.notation.specs.Text.{ByteKind, blank_byte, left, right, word_byte, by
 use Rattle.notation.proofs.Lexing.{flush, lex_byte, lex_from, lex, lex-plain, lex-apart}
 use Rattle.notation.proofs.Machine.{Symbol}
 use Rattle.notation.proofs.Place.{next, reach_by, reach}
-use Rattle.lexemes.specs.Lexeme.{kind_of, leading, blank_size}
+use Rattle.lexemes.specs.Lexeme.{blank_kind, blank_size}
+use Rattle.lexemes.proofs.Leading.{blank-cons, blank_none}
 
 flush-append : (w : Word) (x y : List Token) → flush w (x ++ y) ≡ flush w x ++ y
 flush-append [] x y = refl
@@ -56,33 +56,30 @@ word-alone (b ∷ x) y p h a = lex-plain (b ∷ x) [] p y ∙ lex-apart (b ∷ x
 
 -- ---- blanks
 pub lex-gaps : (u : List ℕ) → lex u ≡ lex (drop (blank_size u) u)
-unfolding leading
-lex-gaps [] = refl
-lex-gaps (b ∷ u) = go (byte_kind b) refl (lex-gaps u)
+lex-gaps [] = rw blank_none
+lex-gaps (b ∷ u) = rw (blank-cons b u) (go (byte_kind b) refl (lex-gaps u))
   where
-    go : (o : ByteKind) → byte_kind b ≡ o → lex u ≡ lex (drop (blank_size u) u) → lex_byte o [] b (λ w. lex_from w u) ≡ lex (drop (cond (eqb (kind_of o) 0) (suc (blank_size u)) 0) (b ∷ u))
+    go : (o : ByteKind) → byte_kind b ≡ o → lex u ≡ lex (drop (blank_size u) u) → lex_byte o [] b (λ w. lex_from w u) ≡ lex (drop (cond (blank_kind o) (suc (blank_size u)) 0) (b ∷ u))
     go blank_byte e ih = ih
     go left e ih = rw e
     go right e ih = rw e
     go word_byte e ih = rw e
 
 pub blank-apart : (u : List ℕ) → Apart (take (blank_size u) u)
-unfolding leading
-blank-apart [] = tt
-blank-apart (b ∷ u) = go (byte_kind b) refl
+blank-apart [] = rw blank_none tt
+blank-apart (b ∷ u) = rw (blank-cons b u) (go (byte_kind b) refl)
   where
-    go : (o : ByteKind) → byte_kind b ≡ o → Apart (take (cond (eqb (kind_of o) 0) (suc (blank_size u)) 0) (b ∷ u))
+    go : (o : ByteKind) → byte_kind b ≡ o → Apart (take (cond (blank_kind o) (suc (blank_size u)) 0) (b ∷ u))
     go blank_byte e = λ q. let z : ◌≡◌ {A = ℕ} 0 1 = cc in omega arith
     go left e = tt
     go right e = tt
     go word_byte e = tt
 
 pub blank-lex : (u : List ℕ) → lex (take (blank_size u) u) ≡ []
-unfolding leading
-blank-lex [] = refl
-blank-lex (b ∷ u) = go (byte_kind b) refl (blank-lex u)
+blank-lex [] = rw blank_none
+blank-lex (b ∷ u) = rw (blank-cons b u) (go (byte_kind b) refl (blank-lex u))
   where
-    go : (o : ByteKind) → byte_kind b ≡ o → lex (take (blank_size u) u) ≡ [] → lex (take (cond (eqb (kind_of o) 0) (suc (blank_size u)) 0) (b ∷ u)) ≡ []
+    go : (o : ByteKind) → byte_kind b ≡ o → lex (take (blank_size u) u) ≡ [] → lex (take (cond (blank_kind o) (suc (blank_size u)) 0) (b ∷ u)) ≡ []
     go blank_byte e ih = rw e ih
     go left e ih = refl
     go right e ih = refl
@@ -93,11 +90,10 @@ blank-after t u = apart-append t [] (take (blank_size u) u) (blank-apart u) ∙ 
 
 -- the same where r are the bytes before a place, the nearest first
 pub back-gaps : (r : List ℕ) → lex (reverse r) ≡ lex (reverse (drop (blank_size r) r))
-unfolding leading
-back-gaps [] = refl
-back-gaps (b ∷ r) = go (byte_kind b) refl (back-gaps r)
+back-gaps [] = rw blank_none
+back-gaps (b ∷ r) = rw (blank-cons b r) (go (byte_kind b) refl (back-gaps r))
   where
-    go : (o : ByteKind) → byte_kind b ≡ o → lex (reverse r) ≡ lex (reverse (drop (blank_size r) r)) → lex (reverse (b ∷ r)) ≡ lex (reverse (drop (cond (eqb (kind_of o) 0) (suc (blank_size r)) 0) (b ∷ r)))
+    go : (o : ByteKind) → byte_kind b ≡ o → lex (reverse r) ≡ lex (reverse (drop (blank_size r) r)) → lex (reverse (b ∷ r)) ≡ lex (reverse (drop (cond (blank_kind o) (suc (blank_size r)) 0) (b ∷ r)))
     go blank_byte e ih =
         rw (reverse-cons b r) (apart-append (reverse r) [] (b ∷ []) (λ q. let z : ◌≡◌ {A = ℕ} 0 1 = cc in omega arith) ∙ rw e (append-nil (lex (reverse r)) ∙ ih))
     go left e ih = refl
@@ -105,13 +101,12 @@ back-gaps (b ∷ r) = go (byte_kind b) refl (back-gaps r)
     go word_byte e ih = refl
 
 pub reach-gaps : (st : List Symbol) (u : List ℕ) → reach st [] u ≡ blank_size u + reach st [] (drop (blank_size u) u)
-unfolding leading
-reach-gaps st [] = refl
-reach-gaps st (b ∷ u) = go (byte_kind b) refl (reach-gaps st u)
+reach-gaps st [] = rw blank_none
+reach-gaps st (b ∷ u) = rw (blank-cons b u) (go (byte_kind b) refl (reach-gaps st u))
   where
     go : (o : ByteKind) → byte_kind b ≡ o → reach st [] u ≡ blank_size u + reach st [] (drop (blank_size u) u)
         → reach_by (next o st [] b) (λ st w. reach st w u)
-        ≡ cond (eqb (kind_of o) 0) (suc (blank_size u)) 0 + reach st [] (drop (cond (eqb (kind_of o) 0) (suc (blank_size u)) 0) (b ∷ u))
+        ≡ cond (blank_kind o) (suc (blank_size u)) 0 + reach st [] (drop (cond (blank_kind o) (suc (blank_size u)) 0) (b ∷ u))
     go blank_byte e ih = omega arith
     go left e ih = rw e (omega arith)
     go right e ih = rw e (omega arith)

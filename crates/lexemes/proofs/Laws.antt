@@ -12,12 +12,15 @@ use Rattle.notation.specs.Text.{ByteKind, left, right, byte_kind, Plain, Apart}
 use Rattle.notation.proofs.Lexing.{lex}
 use Rattle.notation.proofs.Machine.{Symbol}
 use Rattle.notation.proofs.Place.{reach}
+use Rattle.std.specs.Prelude.{Some, None}
+use Rattle.lexemes.specs.declared.Kind.{Kind}
+use Rattle.lexemes.specs.declared.Kind.TheVariants.{Opening, Closing, Word}
 use Rattle.lexemes.specs.declared.Lexeme.{Lexeme}
-use Rattle.lexemes.specs.Lexeme.{blank_size, kind_at, size_at, next_lexeme, last_lexeme, token_by, token_of, Parted}
-use Rattle.lexemes.proofs.Leading.{forth-within, other, back-drop, back-take}
-use Rattle.lexemes.proofs.Made.{firm, last-back}
+use Rattle.lexemes.specs.Lexeme.{blank_size, next_lexeme, last_lexeme, token_of, Parted}
+use Rattle.lexemes.proofs.Leading.{forth-within, back-drop, back-take}
+use Rattle.lexemes.proofs.Made.{firm, last-back, firm-back, From, from-none, from-some, To, to-none, to-some}
 use Rattle.lexemes.proofs.Cut.{cut, lex-gaps, blank-after, back-gaps, reach-gaps}
-use Rattle.lexemes.proofs.Seen.{Seen, seen, seen_size, seen-kind, seen_none, seen-some, seen-token, seen-alone, seen_back, seen-word, seen-left, seen-right, seen_end, seen_start, gaps-end}
+use Rattle.lexemes.proofs.Seen.{Seen, seen_size, seen-some, seen-token, seen-alone, seen_back, seen-word, seen-left, seen-right, seen_end, seen_start, gaps-end}
 
 -- ---- places that are not inside a word
 pub parted-first : (s : List ℕ) → Parted s 0
@@ -44,11 +47,8 @@ slice-drop s a b h =
 -- ---- the next token
 pub record Behind (s : List ℕ) (at : ℕ) (r : Lexeme) : Type 0 where
   pub behind : at ≤ r.start
-  pub ordered : r.start ≤ r.end
+  pub filled : r.start < r.end
   pub inside : r.end ≤ length s
-  pub none : r.kind ≡ 0 → r.start ≡ length s
-  pub some : (r.kind ≡ 0 → ⊥) → r.start < r.end
-  pub kinds : r.kind ≤ 3
 
 -- its bytes are those of a word, as far as it goes
 pub record WordAt (s : List ℕ) (r : Lexeme) : Type 0 where
@@ -72,156 +72,173 @@ module _ (s : List ℕ) (at : ℕ) (h : at ≤ length s) where
   abbrev first : ℕ
   first = at + blank_size (drop at s)
 
-  abbrev size : ℕ
-  size = size_at (drop first s)
-
-  here : Seen (drop first s) (kind_at (drop first s)) size
-  here = seen (drop first s) (firm s at)
-
   first-within : first ≤ length s
-  first-within = forth-within 0 s at h
-
-  end-within : first + size ≤ length s
-  end-within = omega (arith, seen_size here, length-drop first s, first-within)
-
-  pub next-within : Behind s at (next_lexeme s at)
-  next-within = record {
-    behind = omega arith;
-    ordered = omega arith;
-    inside = end-within;
-    none = λ q. omega (arith, first-within, length-drop first s, ap length (seen_none here q));
-    some = λ q. omega (arith, seen-some here q);
-    kinds = seen-kind here;
-  }
+  first-within = forth-within s at h
 
   lex-first : lex (drop at s) ≡ lex (drop first s)
   lex-first = lex-gaps (drop at s) ∙ ap lex (drop-drop (blank_size (drop at s)) at s)
 
-  pub next-end : (next_lexeme s at).kind ≡ 0 → lex (drop at s) ≡ []
-  next-end q = lex-first ∙ ap lex (seen_none here q)
+  lex-before : lex (take first s) ≡ lex (take at s)
+  lex-before = rw (take-add at (blank_size (drop at s)) s) (blank-after (take at s) (drop at s))
 
-  pub next-token : ((next_lexeme s at).kind ≡ 0 → ⊥) → lex (drop at s) ≡ token_of s (next_lexeme s at) ∷ lex (drop (next_lexeme s at).end s)
-  next-token q = lex-first ∙ rw (slice s first size, ← drop-drop size first s) (seen-token here q)
-
-  pub next_word : (next_lexeme s at).kind ≡ 3 → WordAt s (next_lexeme s at)
-  next_word q =
-      let w = seen-word here q in
-      record {
-        plain = rw (slice s first size) w.0;
-        apart = rw (← drop-drop size first s) w.1;
-        whole = slice-drop s first (first + size) (omega arith);
-        filled = λ e. omega (arith, seen-some here (λ z. omega arith), seen_size here, length-take-le size (drop first s) (seen_size here), ap length (sym (slice s first size) ∙ e));
-      }
-
-  bracket : (o : ByteKind) → (byte_kind (get_or (drop first s) 0 0) ≡ o) × (size ≡ 1) → BracketAt s (next_lexeme s at) o
-  bracket o b =
-      let e : first + size ≡ suc first = omega (arith, b.1) in
-      record {
-        sorted = ap (λ (i : ℕ). byte_kind (get_or s i 0)) (sym (add-zero first)) ∙ ap byte_kind (sym (get_or-drop first s 0 0)) ∙ b.0;
-        first = rw e (drop-cons s first 0 (omega (arith, end-within)));
-        one = e;
-      }
-
-  pub next-opening : (next_lexeme s at).kind ≡ 1 → BracketAt s (next_lexeme s at) left
-  next-opening q = bracket left (seen-left here q)
-
-  pub next-closing : (next_lexeme s at).kind ≡ 2 → BracketAt s (next_lexeme s at) right
-  next-closing q = bracket right (seen-right here q)
-
-  -- blanks are always taken
-  pub next-reach : (st : List Symbol) → reach st [] (drop at s) ≡ (next_lexeme s at).start - at + reach st [] (drop (next_lexeme s at).start s)
-  next-reach st =
+  reach-first : (st : List Symbol) → reach st [] (drop at s) ≡ first - at + reach st [] (drop first s)
+  reach-first st =
       let e : first - at ≡ blank_size (drop at s) = omega arith in
       rw (e, ← drop-drop (blank_size (drop at s)) at s) (reach-gaps st (drop at s))
 
-  -- ---- the tokens of the bytes before it, and with it
-  pub next-before : lex (take (next_lexeme s at).start s) ≡ lex (take at s)
-  next-before = rw (take-add at (blank_size (drop at s)) s) (blank-after (take at s) (drop at s))
-
-  pub next-parted : Parted s at → Parted s (next_lexeme s at).start
+  parted-here : Parted s at → Parted s first
   unfolding Parted
-  next-parted p = rw (take-add at (blank_size (drop at s)) s, ← drop-drop (blank_size (drop at s)) at s) (gaps-end (take at s) (drop at s) p)
+  parted-here p = rw (take-add at (blank_size (drop at s)) s, ← drop-drop (blank_size (drop at s)) at s) (gaps-end (take at s) (drop at s) p)
 
-  pub next-parted-end : Parted s (next_lexeme s at).end
-  unfolding Parted
-  next-parted-end = rw (take-add first size s, ← drop-drop size first s) (seen_end here (take first s))
+  -- ---- there is none
+  module _ (e : next_lexeme s at ≡ None) where
+    nothing : drop first s ≡ []
+    nothing = from-none first (drop first s) e
 
-  pub next-prefix : Parted s at → ((next_lexeme s at).kind ≡ 0 → ⊥) → lex (take (next_lexeme s at).end s) ≡ lex (take at s) ++ token_of s (next_lexeme s at) ∷ []
-  unfolding Parted
-  next-prefix p q =
-      rw (take-add first size s, slice s first size)
-      (cut (take first s) (take size (drop first s)) (go (next-parted p)) ∙ rw (next-before, seen-alone here q))
-    where
-      go : Apart (reverse (take first s)) ⊎ Apart (drop first s) → Apart (reverse (take first s)) ⊎ Apart (take size (drop first s))
-      go (inl a) = inl a
-      go (inr a) = inr (apart-take size (drop first s) a)
+    pub next-end : lex (drop at s) ≡ []
+    next-end = lex-first ∙ ap lex nothing
+
+    first-last : first ≡ length s
+    first-last = omega (arith, first-within, length-drop first s, ap length nothing)
+
+    pub next-reach_end : (st : List Symbol) → reach st [] (drop at s) ≡ length s - at + reach st [] []
+    next-reach_end st = rw first-last at (rw nothing at (reach-first st))
+
+  -- ---- it is of that kind and size
+  module _ {k : Kind} {n : ℕ} (g : Seen (drop first s) k n) where
+    abbrev it : Lexeme
+    it = record { kind = k; start = first; end = first + n }
+
+    end-within : first + n ≤ length s
+    end-within = omega (arith, seen_size g, length-drop first s, first-within)
+
+    it-within : Behind s at it
+    it-within = record { behind = omega arith; filled = omega (arith, seen-some g); inside = end-within }
+
+    it-token : lex (drop at s) ≡ token_of s it ∷ lex (drop it.end s)
+    it-token = lex-first ∙ rw (slice s first n, ← drop-drop n first s) (seen-token g)
+
+    it-word : k ≡ Word → WordAt s it
+    it-word q =
+        let w = seen-word g q in
+        record {
+          plain = rw (slice s first n) w.0;
+          apart = rw (← drop-drop n first s) w.1;
+          whole = slice-drop s first (first + n) (omega arith);
+          filled = λ e. omega (arith, seen-some g, seen_size g, length-take-le n (drop first s) (seen_size g), ap length (sym (slice s first n) ∙ e));
+        }
+
+    it-bracket : (o : ByteKind) → (byte_kind (get_or (drop first s) 0 0) ≡ o) × (n ≡ 1) → BracketAt s it o
+    it-bracket o b =
+        let e : first + n ≡ suc first = omega (arith, b.1) in
+        record {
+          sorted = ap (λ (i : ℕ). byte_kind (get_or s i 0)) (sym (add-zero first)) ∙ ap byte_kind (sym (get_or-drop first s 0 0)) ∙ b.0;
+          first = rw e (drop-cons s first 0 (omega (arith, end-within)));
+          one = e;
+        }
+
+    it-end : Parted s it.end
+    unfolding Parted
+    it-end = rw (take-add first n s, ← drop-drop n first s) (seen_end g (take first s))
+
+    it-prefix : Parted s at → lex (take it.end s) ≡ lex (take at s) ++ token_of s it ∷ []
+    unfolding Parted
+    it-prefix p =
+        rw (take-add first n s, slice s first n)
+        (cut (take first s) (take n (drop first s)) (go (parted-here p)) ∙ rw (lex-before, seen-alone g))
+      where
+        go : Apart (reverse (take first s)) ⊎ Apart (drop first s) → Apart (reverse (take first s)) ⊎ Apart (take n (drop first s))
+        go (inl a) = inl a
+        go (inr a) = inr (apart-take n (drop first s) a)
+
+  module _ (r : Lexeme) (e : next_lexeme s at ≡ Some r) where
+    found : From first (drop first s) r
+    found = from-some first (drop first s) r (firm s at) e
+
+    pub next-within : Behind s at r
+    next-within = rw found.is (it-within found.front)
+
+    pub next-token : lex (drop at s) ≡ token_of s r ∷ lex (drop r.end s)
+    next-token = rw found.is (it-token found.front)
+
+    pub next_word : r.kind ≡ Word → WordAt s r
+    next_word q = rw found.is (it-word found.front (rw found.is at q))
+
+    pub next-opening : r.kind ≡ Opening → BracketAt s r left
+    next-opening q = rw found.is (it-bracket found.front left (seen-left found.front (rw found.is at q)))
+
+    pub next-closing : r.kind ≡ Closing → BracketAt s r right
+    next-closing q = rw found.is (it-bracket found.front right (seen-right found.front (rw found.is at q)))
+
+    -- blanks are always taken
+    pub next-reach : (st : List Symbol) → reach st [] (drop at s) ≡ r.start - at + reach st [] (drop r.start s)
+    next-reach st = rw found.is (reach-first st)
+
+    -- ---- the tokens of the bytes before it, and with it
+    pub next-before : lex (take r.start s) ≡ lex (take at s)
+    next-before = rw found.is lex-before
+
+    pub next-parted : Parted s at → Parted s r.start
+    next-parted p = rw found.is (parted-here p)
+
+    pub next-parted-end : Parted s r.end
+    next-parted-end = rw found.is (it-end found.front)
+
+    pub next-prefix : Parted s at → lex (take r.end s) ≡ lex (take at s) ++ token_of s r ∷ []
+    next-prefix p = rw found.is (it-prefix found.front p)
 
 -- ---- the last token
-pub record Before (at : ℕ) (q : Lexeme) : Type 0 where
-  pub ordered : q.start ≤ q.end
-  pub inside : q.end ≤ at
-  pub none : q.kind ≡ 0 → q.end ≡ 0
-  pub some : (q.kind ≡ 0 → ⊥) → q.start < q.end
-  pub kinds : q.kind ≤ 3
+pub record Before (at : ℕ) (r : Lexeme) : Type 0 where
+  pub filled : r.start < r.end
+  pub inside : r.end ≤ at
 
 -- a token that is seen from its end, backwards
-module _ (s : List ℕ) (end : ℕ) (h : end ≤ length s) (k n : ℕ) (g : Seen (reverse (take end s)) k n) where
-  all : length (reverse (take end s)) ≡ end
-  all = length-reverse (take end s) ∙ length-take-le end s h
-
-  fits : n ≤ end
-  fits = omega (arith, seen_size g, all)
+module _ (s : List ℕ) (end : ℕ) (h : end ≤ length s) {k : Kind} {n : ℕ} (g : Seen (reverse (take end s)) k n) where
+  size-within : n ≤ end
+  size-within = omega (arith, seen_size g, length-reverse (take end s), length-take-le end s h)
 
   before : (at : ℕ) → end ≤ at → Before at (record { kind = k; start = end - n; end = end })
-  before at l = record {
-    ordered = omega arith;
-    inside = l;
-    none = λ q. omega (arith, all, ap length (seen_none g q));
-    some = λ q. omega (arith, fits, seen-some g q);
-    kinds = seen-kind g;
-  }
+  before at l = record { filled = omega (arith, size-within, seen-some g); inside = l }
 
   -- the bytes before it, and its own
   rest : reverse (drop n (reverse (take end s))) ≡ take (end - n) s
-  rest = rw (back-drop s end n h fits) (reverse-reverse (take (end - n) s))
+  rest = rw (back-drop s end n h size-within) (reverse-reverse (take (end - n) s))
 
   own : reverse (take n (reverse (take end s))) ≡ between (end - n) end s
   own =
-      let f = fits in
+      let f = size-within in
       let e : end - (end - n) ≡ n = omega arith in
       rw (back-take s end n h f, e) (reverse-reverse (take n (drop (end - n) s)))
 
-  token : (k ≡ 0 → ⊥) → lex (take end s) ≡ lex (take (end - n) s) ++ token_by k (between (end - n) end s) ∷ []
-  token q = rw (← rest, ← own) (rw reverse-reverse at (seen_back g q))
+  token : lex (take end s) ≡ lex (take (end - n) s) ++ token_of s (record { kind = k; start = end - n; end = end }) ∷ []
+  token = rw (← rest, ← own) (rw reverse-reverse at (seen_back g))
 
   parted : Parted s (end - n)
   unfolding Parted
-  parted = rw (slice-drop s (end - n) end (omega arith), ← own, ← back-drop s end n h fits) (seen_start g (drop end s))
+  parted = rw (slice-drop s (end - n) end (omega arith), ← own, ← back-drop s end n h size-within) (seen_start g (drop end s))
 
 module _ (s : List ℕ) (at : ℕ) (h : at ≤ length s) where
-  abbrev back : List ℕ
-  back = reverse (take at s)
-
   abbrev past : ℕ
-  past = at - blank_size back
-
-  there : Seen (reverse (take past s)) (kind_at (reverse (take past s))) (size_at (reverse (take past s)))
-  there = seen (reverse (take past s)) (rw (last-back s at h) at (other 0 back))
+  past = at - blank_size (reverse (take at s))
 
   past-within : past ≤ length s
   past-within = omega arith
 
   lex-past : lex (take at s) ≡ lex (take past s)
-  lex-past = rw (reverse-reverse, last-back s at h, reverse-reverse) at (back-gaps back)
+  lex-past = rw (reverse-reverse, last-back s at h, reverse-reverse) at (back-gaps (reverse (take at s)))
 
-  pub last_within : Before at (last_lexeme s at)
-  last_within = rw (last-back s at h) (before s past past-within _ _ there at (omega arith))
+  pub last_none : last_lexeme s at ≡ None → lex (take at s) ≡ []
+  last_none e = lex-past ∙ rw reverse-reverse at (ap (λ (l : List ℕ). lex (reverse l)) (to-none past (reverse (take past s)) e))
 
-  pub last_none : (last_lexeme s at).kind ≡ 0 → lex (take at s) ≡ []
-  last_none q = lex-past ∙ rw reverse-reverse at (ap (λ (l : List ℕ). lex (reverse l)) (seen_none there (rw (last-back s at h) at q)))
+  module _ (r : Lexeme) (e : last_lexeme s at ≡ Some r) where
+    met : To past (reverse (take past s)) r
+    met = to-some past (reverse (take past s)) r (firm-back s at h) e
 
-  pub last-token : ((last_lexeme s at).kind ≡ 0 → ⊥) → lex (take at s) ≡ lex (take (last_lexeme s at).start s) ++ token_of s (last_lexeme s at) ∷ []
-  last-token q = rw (last-back s at h) (lex-past ∙ token s past past-within _ _ there (rw (last-back s at h) at q))
+    pub last_within : Before at r
+    last_within = rw met.is (before s past past-within met.front at (omega arith))
 
-  pub last-parted : Parted s (last_lexeme s at).start
-  last-parted = rw (last-back s at h) (parted s past past-within _ _ there)
+    pub last-token : lex (take at s) ≡ lex (take r.start s) ++ token_of s r ∷ []
+    last-token = lex-past ∙ rw met.is (token s past past-within met.front)
+
+    pub last-parted : Parted s r.start
+    last-parted = rw met.is (parted s past past-within met.front)

@@ -1,67 +1,75 @@
--- The bytes of one kind that lead, forwards from a place of a text and backwards from it. Assumes nothing.
+-- The blanks that lead and the bytes of a word that lead; the bytes before a place, the nearest first. Assumes nothing.
 use mathlib.Core.Path.{◌≡◌, refl, ap, ◌∙◌}
 use mathlib.Core.Bool.{Bool, true, false, cond}
 use mathlib.Core.List.{List, [], ◌∷◌, ◌++◌, reverse, reverse-append}
 use Prim.Native.Nat.{ℕ, zero, suc, ◌+◌, ◌-◌, ◌≤◌, ◌<◌}
 use native.Mathlib.Omega.{arith}
-use native.Mathlib.Numerals.{add-one}
-use lib.Dec.{eqb}
-use lib.ListN.{length, get_or, take, drop, length-reverse, drop_of_length-le, length-drop}
-use lib.Seq.{drop-cons, take-suc, take-add, take_at, drop_at, length-take-le}
-use borrow.Author.Tests.{eq-eqb, ne_eqb}
-use Rattle.notation.specs.Text.{byte_kind}
-use Rattle.lexemes.specs.Lexeme.{kind_of, leading}
+use lib.ListN.{length, get_or, take, drop, length-reverse, length-drop}
+use lib.Seq.{take-suc, take-add, take_at, drop_at, length-take-le}
+use Rattle.std.specs.List.{prefix_len}
+use Rattle.std.proofs.lemmas.List.Sums.{prefix_len-le-length}
+use Rattle.notation.specs.Text.{blank_byte, word_byte, byte_kind}
+use Rattle.lexemes.specs.Lexeme.{is_blank, in_word, blank_size, word_size}
 
-module _ (k : ℕ) where
-  pub within : (s : List ℕ) → leading k s ≤ length s
-  unfolding leading
-  within [] = omega arith
-  within (b ∷ s) = go (eqb (kind_of (byte_kind b)) k) (within s)
-    where
-      go : (c : Bool) → leading k s ≤ length s → cond c (suc (leading k s)) 0 ≤ suc (length s)
-      go true h = omega arith
-      go false h = omega arith
+one-more : (c : Bool) (n : ℕ) → cond c (1 + n) 0 ≡ cond c (suc n) 0
+one-more true n = omega arith
+one-more false n = refl
 
-  more : (b : ℕ) (s : List ℕ) → kind_of (byte_kind b) ≡ k → leading k (b ∷ s) ≡ suc (leading k s)
-  unfolding leading
-  more b s e = rw (eq-eqb (kind_of (byte_kind b)) k e)
+pub blank-cons : (b : ℕ) (s : List ℕ) → blank_size (b ∷ s) ≡ cond (is_blank b) (suc (blank_size s)) 0
+unfolding blank_size
+blank-cons b s = one-more (is_blank b) (prefix_len is_blank s)
 
-  stop : (b : ℕ) (s : List ℕ) → (kind_of (byte_kind b) ≡ k → ⊥) → leading k (b ∷ s) ≡ 0
-  unfolding leading
-  stop b s n = rw (ne_eqb (kind_of (byte_kind b)) k n)
+pub word-cons : (b : ℕ) (s : List ℕ) → word_size (b ∷ s) ≡ cond (in_word b) (suc (word_size s)) 0
+unfolding word_size
+word-cons b s = one-more (in_word b) (prefix_len in_word s)
 
-  none : leading k [] ≡ 0
-  unfolding leading
-  none = refl
+pub blank_none : blank_size [] ≡ 0
+unfolding blank_size
+blank_none = refl
 
-  -- what follows them does not begin so
-  pub other : (s : List ℕ) → leading k (drop (leading k s) s) ≡ 0
-  unfolding leading
+pub word_none : word_size [] ≡ 0
+unfolding word_size
+word_none = refl
+
+pub blank-within : (s : List ℕ) → blank_size s ≤ length s
+unfolding blank_size
+blank-within s = prefix_len-le-length is_blank s
+
+pub word-within : (s : List ℕ) → word_size s ≤ length s
+unfolding word_size
+word-within s = prefix_len-le-length in_word s
+
+-- what follows them does not begin so
+module _ (p : ℕ → Bool) where
+  other : (s : List ℕ) → prefix_len p (drop (prefix_len p s) s) ≡ 0
   other [] = refl
-  other (b ∷ s) = go (eqb (kind_of (byte_kind b)) k) refl (other s)
+  other (b ∷ s) = rw (one-more (p b) (prefix_len p s)) (go (p b) refl (other s))
     where
-      go : (c : Bool) → eqb (kind_of (byte_kind b)) k ≡ c → leading k (drop (leading k s) s) ≡ 0 → leading k (drop (cond c (suc (leading k s)) 0) (b ∷ s)) ≡ 0
+      go : (c : Bool) → p b ≡ c → prefix_len p (drop (prefix_len p s) s) ≡ 0 → prefix_len p (drop (cond c (suc (prefix_len p s)) 0) (b ∷ s)) ≡ 0
       go true e h = h
       go false e h = rw e
 
-  pub begins-other : (b : ℕ) (s : List ℕ) → leading k (b ∷ s) ≡ 0 → kind_of (byte_kind b) ≡ k → ⊥
-  begins-other b s h e = omega (arith, more b s e)
+pub blank-other : (s : List ℕ) → blank_size (drop (blank_size s) s) ≡ 0
+unfolding blank_size
+blank-other s = other is_blank s
 
-  -- ---- forwards, from the place i
-  module _ (s : List ℕ) (i : ℕ) where
-    pub forth-end : length s ≤ i → i ≡ i + leading k (drop i s)
-    forth-end h = rw (drop_of_length-le s h, none) (omega arith)
+pub word-other : (s : List ℕ) → word_size (drop (word_size s) s) ≡ 0
+unfolding word_size
+word-other s = other in_word s
 
-    pub forth-stop : i < length s → (kind_of (byte_kind (get_or s i 0)) ≡ k → ⊥) → i ≡ i + leading k (drop i s)
-    forth-stop h n = rw (drop-cons s i 0 h, stop (get_or s i 0) (drop (suc i) s) n) (omega arith)
+pub no-blank : (b : ℕ) (s : List ℕ) → blank_size (b ∷ s) ≡ 0 → byte_kind b ≡ blank_byte → ⊥
+no-blank b s h e = omega (arith, rw e at (blank-cons b s))
 
-    pub forth-more : i < length s → kind_of (byte_kind (get_or s i 0)) ≡ k → i + leading k (drop i s) ≡ i + 1 + leading k (drop (i + 1) s)
-    forth-more h e = rw (add-one i, drop-cons s i 0 h, more (get_or s i 0) (drop (suc i) s) e) (omega arith)
+pub no-letter : (b : ℕ) (s : List ℕ) → word_size (b ∷ s) ≡ 0 → byte_kind b ≡ word_byte → ⊥
+no-letter b s h e = omega (arith, rw e at (word-cons b s))
 
-    pub forth-within : i ≤ length s → i + leading k (drop i s) ≤ length s
-    forth-within h = omega (arith, within (drop i s), length-drop i s)
+-- ---- from a place on, and up to one
+pub forth-within : (s : List ℕ) (i : ℕ) → i ≤ length s → i + blank_size (drop i s) ≤ length s
+forth-within s i h = omega (arith, blank-within (drop i s), length-drop i s)
 
--- ---- backwards: the bytes before a place, the nearest first
+pub back-within : (s : List ℕ) (i : ℕ) → i ≤ length s → blank_size (reverse (take i s)) ≤ i
+back-within s i h = omega (arith, blank-within (reverse (take i s)), length-reverse (take i s), length-take-le i s h)
+
 pub back-cons : (s : List ℕ) (i : ℕ) → 0 < i → i ≤ length s → reverse (take i s) ≡ get_or s (i - 1) 0 ∷ reverse (take (i - 1) s)
 back-cons s zero p h = absurd (omega arith)
 back-cons s (suc j) p h =
@@ -93,16 +101,3 @@ module _ (s : List ℕ) (at j : ℕ) (h : at ≤ length s) (l : j ≤ at) where
   pub back-take : take j (reverse (take at s)) ≡ reverse (take j (drop (at - j) s))
   unfolding near
   back-take = rw back-split (take_at (reverse near) (reverse far) j near-size)
-
-module _ (k : ℕ) (s : List ℕ) (i : ℕ) where
-  pub back-within : i ≤ length s → leading k (reverse (take i s)) ≤ i
-  back-within h = omega (arith, within k (reverse (take i s)), length-reverse (take i s), length-take-le i s h)
-
-  pub back_end : i ≤ 0 → i ≡ i - leading k (reverse (take i s))
-  back_end h = omega arith
-
-  pub back-stop : 0 < i → i ≤ length s → (kind_of (byte_kind (get_or s (i - 1) 0)) ≡ k → ⊥) → i ≡ i - leading k (reverse (take i s))
-  back-stop p h n = rw (back-cons s i p h, stop k (get_or s (i - 1) 0) (reverse (take (i - 1) s)) n) (omega arith)
-
-  pub back_more : 0 < i → i ≤ length s → kind_of (byte_kind (get_or s (i - 1) 0)) ≡ k → i - leading k (reverse (take i s)) ≡ i - 1 - leading k (reverse (take (i - 1) s))
-  back_more p h e = rw (back-cons s i p h, more k (get_or s (i - 1) 0) (reverse (take (i - 1) s)) e) (omega arith)

@@ -1,7 +1,7 @@
 pub mod Leading
-pub mod Made
 pub mod Cut
 pub mod Seen
+pub mod Made
 pub mod Laws
 pub mod Shown
 pub mod Depth

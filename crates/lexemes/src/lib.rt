@@ -3,131 +3,120 @@
 
 ghost use Rattle.std.specs.Prelude.{◌≡◌, reverse, ◌+◌, ◌-◌, ◌≤◌, ◌<◌, length, take, drop};
 ghost use Rattle.notation.specs.Text.{byte_kind};
-ghost use Rattle.lexemes.specs.Lexeme.{kind_of, leading, next_lexeme, last_lexeme, depth_by};
+ghost use Rattle.lexemes.specs.Lexeme.{is_blank, in_word, blank_size, word_size, kind_of, next_lexeme, last_lexeme, depth_by};
 
-// Kind 0: there is none. 1: an opening bracket, 2: a closing one, 3: a word. Its bytes are start..end.
-#[derive(Drop)]
+#[derive(Clone, Copy, PartialEq, Eq)]
+pub enum Kind {
+    Opening,
+    Closing,
+    Word,
+}
+
+// A token, whose bytes are start..end.
+#[derive(Clone, Copy)]
 pub struct Lexeme {
-    pub kind: u8,
+    pub kind: Kind,
     pub start: usize,
     pub end: usize,
 }
 
-// 0 a blank, 1 and 2 the brackets, 3 part of a word.
-fn kind_of(b: u8) -> u8
+// A space, and both bytes of a line end.
+#[tactic(auto, unfolding(notation::specs::Text::byte_kind))]
+fn is_blank(b: u8) -> bool
+    ensures { result ≡ is_blank b }
+{
+    matches!(b, b' ' | b'\n' | b'\r')
+}
+
+// Whether a byte is part of a word.
+#[tactic(auto, unfolding(notation::specs::Text::byte_kind))]
+fn in_word(b: u8) -> bool
+    ensures { result ≡ in_word b }
+{
+    !matches!(b, b' ' | b'\n' | b'\r' | b'(' | b')')
+}
+
+// The kind of a token that begins with that byte, which is no blank.
+#[tactic(auto, unfolding(notation::specs::Text::byte_kind))]
+fn kind_of(b: u8) -> Kind
     ensures { result ≡ kind_of (byte_kind b) }
 {
     match b {
-        32 => 0,
-        10 => 0,
-        13 => 0,
-        40 => 1,
-        41 => 2,
-        _ => 3,
+        b'(' => Kind::Opening,
+        b')' => Kind::Closing,
+        _ => Kind::Word,
     }
 }
 
-// The first place from `at` on whose byte is not of that kind.
-fn skip(s: &[u8], at: usize, kind: u8) -> usize
-    requires { at ≤ length s.now }
-    ensures { result ≡ at + leading kind (drop at s.now) }
+// How many blanks lead, how many end it; the same of a word's bytes.
+#[tactic(auto, unfolding(crate::specs::Lexeme::blank_size))]
+fn blanks_at_front(s: &[u8]) -> usize
+    ensures size { result ≡ blank_size s.now }
+    ensures within { result ≤ length s.now }
 {
-    let mut i = at;
-    while i < s.len() {
-        if kind_of(s[i]) != kind {
-            return i;
-        }
-        i += 1;
-    }
-    i
+    s.iter().take_while(|b| is_blank(**b)).count()
 }
 
-// The last place down from `at` whose byte before it is not of that kind.
-fn back(s: &[u8], at: usize, kind: u8) -> usize
-    requires { at ≤ length s.now }
-    ensures { result ≡ at - leading kind (reverse (take at s.now)) }
+#[tactic(auto, unfolding(crate::specs::Lexeme::blank_size))]
+fn blanks_at_end(s: &[u8]) -> usize
+    ensures size { result ≡ blank_size (reverse s.now) }
+    ensures within { result ≤ length s.now }
 {
-    let mut i = at;
-    while 0 < i {
-        if kind_of(s[i - 1]) != kind {
-            return i;
-        }
-        i -= 1;
-    }
-    i
+    s.iter().rev().take_while(|b| is_blank(**b)).count()
+}
+
+#[tactic(auto, unfolding(crate::specs::Lexeme::word_size))]
+fn word_at_front(s: &[u8]) -> usize
+    ensures size { result ≡ word_size s.now }
+    ensures within { result ≤ length s.now }
+{
+    s.iter().take_while(|b| in_word(**b)).count()
+}
+
+#[tactic(auto, unfolding(crate::specs::Lexeme::word_size))]
+fn word_at_end(s: &[u8]) -> usize
+    ensures size { result ≡ word_size (reverse s.now) }
+    ensures within { result ≤ length s.now }
+{
+    s.iter().rev().take_while(|b| in_word(**b)).count()
 }
 
 // The token that begins at or behind `at`.
-pub fn next(s: &[u8], at: usize) -> Lexeme
+pub fn next(s: &[u8], at: usize) -> Option<Lexeme>
     requires { at ≤ length s.now }
     ensures { result ≡ next_lexeme s.now at }
 {
-    let start = skip(s, at, 0);
-    if s.len() <= start {
-        return Lexeme {
-            kind: 0,
-            start: start,
-            end: start,
-        };
-    }
-    let kind = kind_of(s[start]);
-    if kind == 3 {
-        let end = skip(s, start + 1, 3);
-        return Lexeme {
-            kind: 3,
-            start: start,
-            end: end,
-        };
-    }
-    Lexeme {
-        kind: kind,
-        start: start,
-        end: start + 1,
-    }
+    let start = at + blanks_at_front(&s[at..]);
+    let kind = kind_of(*s.get(start)?);
+    let end = match kind {
+        Kind::Opening | Kind::Closing => start + 1,
+        Kind::Word => start + word_at_front(&s[start..]),
+    };
+    Some(Lexeme { kind, start, end })
 }
 
 // The token that ends at or before `at`.
-pub fn last(s: &[u8], at: usize) -> Lexeme
+pub fn last(s: &[u8], at: usize) -> Option<Lexeme>
     requires { at ≤ length s.now }
     ensures { result ≡ last_lexeme s.now at }
 {
-    let end = back(s, at, 0);
-    if end == 0 {
-        return Lexeme {
-            kind: 0,
-            start: 0,
-            end: 0,
-        };
-    }
-    let kind = kind_of(s[end - 1]);
-    if kind == 3 {
-        let start = back(s, end - 1, 3);
-        return Lexeme {
-            kind: 3,
-            start: start,
-            end: end,
-        };
-    }
-    Lexeme {
-        kind: kind,
-        start: end - 1,
-        end: end,
-    }
+    let end = at - blanks_at_end(&s[..at]);
+    let kind = kind_of(*s[..end].last()?);
+    let start = match kind {
+        Kind::Opening | Kind::Closing => end - 1,
+        Kind::Word => end - word_at_end(&s[..end]),
+    };
+    Some(Lexeme { kind, start, end })
 }
 
 // The brackets that are open behind a token of that kind.
-pub fn depth_after(d: usize, kind: u8) -> usize
+pub fn depth_after(d: usize, kind: Kind) -> usize
     requires { d + 1 < 18446744073709551616 }
     ensures { result ≡ depth_by d kind }
 {
-    if kind == 1 {
-        return d + 1;
+    match kind {
+        Kind::Opening => d + 1,
+        Kind::Closing => d.saturating_sub(1),
+        Kind::Word => d,
     }
-    if kind == 2 {
-        if d == 0 {
-            return 0;
-        }
-        return d - 1;
-    }
-    d
 }

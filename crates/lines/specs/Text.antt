@@ -1,7 +1,6 @@
 -- What the replay prints, as bytes of ASCII. Definitions only: nothing is assumed.
-use Rattle.std.specs.Prelude.{cond, ◌≡◌, List, [], ◌∷◌, ◌++◌, ℕ, zero, suc, ◌+◌, ◌*◌, ◌/◌, ◌%◌, ◌≤◌, take, get_or, ltb, ℤ, pos, negsuc}
+use Rattle.std.specs.Prelude.{cond, List, [], ◌∷◌, ◌++◌, ℕ, zero, suc, ◌+◌, ◌*◌, ◌/◌, ◌%◌, get_or, ltb, ℤ, pos, negsuc}
 use Rattle.event.specs.Calls.{answer_width}
-use Rattle.io.specs.Counts.{IsPrefixLen}
 
 -- a digit; the digits of n with none in front that is not needed, k + 1 at the most
 abbrev pub digit : ℕ → ℕ
@@ -45,14 +44,3 @@ refused_line number place = word ++ decimal number ++ space ++ decimal place ++ 
 -- bytes in which every line fits
 abbrev pub line_room : ℕ
 line_room = 80
-
--- text was put at `at` into a buffer that held `before` and then holds `after`, up to `r`; it took at most `most` bytes
-pub record Put (before : List ℕ) (at : ℕ) (text : List ℕ) (most : ℕ) (after : List ℕ) (r : ℕ) : Type 0 where
-  pub reads : take r after ≡ take at before ++ text
-  pub onward : at ≤ r
-  pub fits : r ≤ at + most
-
--- a buffer begins with the text, whose r bytes are all in it
-pub record Begins (out : List ℕ) (r : ℕ) (text : List ℕ) : Type 0 where
-  pub counts : IsPrefixLen r out
-  pub reads : take r out ≡ text

@@ -1,95 +1,62 @@
-// The lines that the replay prints, put one behind the other into a lent buffer.
+// The lines that the replay prints, each put behind the text so far.
 #![tactic(auto)]
 
-ghost use Rattle.std.specs.Prelude.{◌≡◌, ◌+◌, ◌*◌, ◌≤◌, length, nat_abs};
+ghost use Rattle.std.specs.Prelude.{◌≡◌, ◌++◌, ◌+◌, ◌*◌, ◌≤◌, length};
+ghost use Rattle.arrayvec.specs.ArrayString.{array_string_len};
+ghost use Rattle.verdict.specs.Outcome.{number_of};
 ghost use Rattle.event.specs.Calls.{answer_width};
-ghost use Rattle.lines.specs.Text.{line_room, decimal, signed_text, line, lines, refused_line, Put, Begins};
+ghost use Rattle.lines.specs.Text.{line_room, line, lines, refused_line};
 
-// Puts a text at `at` into the buffer, and answers where the next one goes. The same of each `put_` below.
-fn put(text: &[u8], out: &mut [u8], at: usize) -> usize
-    requires { at + length text.now ≤ length out.old }
-    ensures { Put out.old at text.now (length text.now) out.new result }
+use arrayvec::ArrayString;
+use itoa::{Buffer, Integer};
+use verdict::Refusal;
+
+// A number as std spells it, which is this crate's `decimal` or `signed_text`: proved in proofs/Digits. Not by `write!`, which may fail, and no clause says when it does not.
+fn put_number<I: Integer, const ROOM: usize>(n: I, text: &mut ArrayString<ROOM>)
+    requires { array_string_len text.old + I.MAX_STR_LEN ≤ ROOM }
+    ensures bytes { text.new.bytes ≡ text.old.bytes ++ I.text n }
+    ensures len { array_string_len text.new ≤ array_string_len text.old + I.MAX_STR_LEN }
 {
-    let mut i: usize = 0;
-    while i < text.len() {
-        out[at + i] = text[i];
-        i += 1;
-    }
-    at + i
+    text.push_str(Buffer::new().format(n));
 }
 
-// The digits that io spells are `decimal`, this crate's definition: proved in proofs/Digits.
-fn put_decimal(n: u64, out: &mut [u8], at: usize) -> usize
-    requires { at + 20 ≤ length out.old }
-    ensures { Put out.old at (decimal n) 20 out.new result }
+// An event's line: 45 bytes at the most, so that the room of a line is enough.
+fn put_line<const ROOM: usize>(index: usize, code: i32, value: i32, text: &mut ArrayString<ROOM>)
+    requires { array_string_len text.old + line_room ≤ ROOM }
+    ensures bytes { text.new.bytes ≡ text.old.bytes ++ line index code value }
+    ensures len { array_string_len text.new ≤ array_string_len text.old + line_room }
 {
-    let mut digits = [0u8; 20];
-    let k = io::decimal(n, &mut digits);
-    put(&digits[..k], out, at)
+    put_number(index, text);
+    text.push(' ');
+    put_number(code, text);
+    text.push(' ');
+    put_number(value, text);
+    text.push('\n');
 }
 
-// How far x is from 0. -1 - x has no overflow, where -x may.
-fn size(x: i32) -> u64
-    ensures { result ≡ nat_abs x }
+// The line of a refusal.
+pub fn put_refused<const ROOM: usize>(refusal: Refusal, text: &mut ArrayString<ROOM>)
+    requires { array_string_len text.old + line_room ≤ ROOM }
+    ensures { text.new.bytes ≡ text.old.bytes ++ refused_line (number_of refusal.reason) refusal.place }
 {
-    if x < 0 {
-        return ((-1 - x) as u64) + 1;
-    }
-    x as u64
+    text.push_str("refused ");
+    put_number(refusal.reason.number(), text);
+    text.push(' ');
+    put_number(refusal.place, text);
+    text.push('\n');
 }
 
-fn put_signed(x: i32, out: &mut [u8], at: usize) -> usize
-    requires { at + 21 ≤ length out.old }
-    ensures { Put out.old at (signed_text x) 21 out.new result }
+// The lines of n events, whose answers stand in the first n pairs of cells, as a call leaves them in C's answer space.
+pub fn put_lines<const ROOM: usize>(cells: &[i32], n: usize, text: &mut ArrayString<ROOM>)
+    requires { (answer_width * n ≤ length cells.now) × (array_string_len text.old + line_room * n ≤ ROOM) }
+    ensures { text.new.bytes ≡ text.old.bytes ++ lines 0 n cells.now }
 {
-    if x < 0 {
-        let at = put(b"-", out, at);
-        return put_decimal(size(x), out, at);
-    }
-    put_decimal(size(x), out, at)
-}
-
-// An event's line: 65 bytes at the most, so that the room of a line is enough.
-fn put_line(i: u64, code: i32, value: i32, out: &mut [u8], at: usize) -> usize
-    requires { at + line_room ≤ length out.old }
-    ensures { Put out.old at (line i code value) line_room out.new result }
-{
-    let at = put_decimal(i, out, at);
-    let at = put(b" ", out, at);
-    let at = put_signed(code, out, at);
-    let at = put(b" ", out, at);
-    let at = put_signed(value, out, at);
-    put(b"\n", out, at)
-}
-
-// The line of a refusal: how many bytes it has.
-pub fn put_refused(number: u64, place: u64, out: &mut [u8]) -> usize
-    requires { line_room ≤ length out.old }
-    ensures { Begins out.new result (refused_line number place) }
-{
-    let at = put(b"refused ", out, 0);
-    let at = put_decimal(number, out, at);
-    let at = put(b" ", out, at);
-    let at = put_decimal(place, out, at);
-    put(b"\n", out, at)
-}
-
-// The lines of n events, whose answers stand in the first n pairs of cells: how many bytes they have.
-pub fn put_lines(cells: &[i32], n: usize, out: &mut [u8]) -> usize
-    requires { (answer_width * n ≤ length cells.now) × (line_room * n ≤ length out.old) }
-    ensures { Begins out.new result (lines 0 n cells.now) }
-{
-    let mut at: usize = 0;
-    let mut i: usize = 0;
-    while i < n {
-        at = put_line(
-            i as u64,
+    for i in 0..n {
+        put_line(
+            i,
             cells[layout::ANSWER * i],
             cells[layout::ANSWER * i + 1],
-            out,
-            at,
+            text,
         );
-        i += 1;
     }
-    at
 }

@@ -1,76 +1,40 @@
--- The entries that are left of a list that was read, for those who go through it: the field at each place is the next entry. Assumes nothing.
-use mathlib.Core.Path.{◌≡◌, refl, sym, ap, ◌∙◌}
-use mathlib.Core.Bool.{true}
+-- The entries that are left of a list that was read, for those who go through it: the event at the front is the next entry's. Assumes nothing.
+use mathlib.Core.Path.{◌≡◌, refl}
 use mathlib.Core.List.{List, [], ◌∷◌}
-use mathlib.Core.Option.{Option, none, some}
-use Prim.Native.Nat.{ℕ, suc, ◌-◌, ◌≤◌, ◌<◌}
-use native.Mathlib.Omega.{arith}
-use lib.ListN.{length, take, drop}
-use Rattle.wire.specs.Wire.{fields_in, fields_of}
-use Rattle.event.specs.Event.{Event, Entry, Read, entries, refused_at, before, on_event, read_as, read_from, read_list}
-use Rattle.wire_reader.specs.declared.Field.TheVariants.{Whole, Cut}
-use Rattle.wire_reader.specs.Field.{field_at, fields_from}
-use Rattle.wire_reader.proofs.Laws.{placed, at-end}
-use Rattle.lists.specs.Listed.{known}
-use Rattle.lists.proofs.Bytes.{length-body}
-use Rattle.lists.proofs.Known.{is_event, known_is}
-use Rattle.lists.proofs.Turns.{Opened, opened}
+use Prim.Native.Nat.{ℕ, suc}
+use Rattle.wire.specs.Wire.{Fields, end, cut, whole, fields_of}
+use Rattle.event.specs.Event.{Entry, Read, entries, refused_at, before, read_from, read_list}
+use Rattle.lists.specs.declared.Event as coded
+use Rattle.lists.specs.Listed.{NoEvent, Splits}
+use Rattle.lists.proofs.Turns.{one_read}
 
--- n fields stand before the place at, and l is what is left
-pub record Left (s : List ℕ) (at n : ℕ) (l : List Entry) : Type 0 where
-  pub fuel : ℕ
-  pub enough : length s - at < fuel
-  pub same : read_from n (fields_in fuel (drop at s)) ≡ entries l
+-- n events stand before the bytes s, and l is what is left
+pub record Left (s : List ℕ) (n : ℕ) (l : List Entry) : Type 0 where
+  pub same : read_from n (fields_of s) ≡ entries l
 
-pub left-begin : (s : List ℕ) (l : List Entry) → read_list s ≡ entries l → Left s 0 0 l
-unfolding read_list fields_of
-left-begin s l q = record { fuel = suc (length s); enough = omega arith; same = q }
+pub left-begin : (s : List ℕ) (l : List Entry) → read_list s ≡ entries l → Left s 0 l
+unfolding read_list
+left-begin s l q = record { same = q }
 
--- an entry is read, and what is left after it
-record Read-on (e : Entry) (o : Option Event) (r : Read) (l : List Entry) : Type 0 where
-  pub good : is_event o ≡ true
-  pub rest : List Entry
-  pub is : l ≡ e ∷ rest
-  pub after : r ≡ entries rest
+-- no event at the front: nothing is left
+none-read : (n : ℕ) (f : Fields) (l : List Entry) → NoEvent f → read_from n f ≡ entries l → l ≡ []
+unfolding read_from
+none-read n end l h q = cc
+none-read n cut l h q = cc
+none-read n (whole tag s rest) l h q = let p = rw h at q in cc
 
-read-on-from : (n : ℕ) (e : Entry) (o : Option Event) (r : Read) (l : List Entry) → on_event n o (before e r) ≡ entries l → Read-on e o r l
-read-on-from n e none r l q = let z : ◌≡◌ {A = ℕ} 0 1 = cc in absurd (omega arith)
-read-on-from n e (some x) (entries m) l q = record { good = refl; rest = m; is = (cc); after = refl }
-read-on-from n e (some x) (refused_at k) l q = let z : ◌≡◌ {A = ℕ} 0 1 = cc in absurd (omega arith)
+pub left_end : {s : List ℕ} {n : ℕ} {l : List Entry} → Left s n l → NoEvent (fields_of s) → l ≡ []
+left_end {s} {n} {l} g h = none-read n (fields_of s) l h g.same
 
-module _ (s : List ℕ) (at n : ℕ) (l : List Entry) (g : Left s at n l) where
-  open_at : Opened s at g.fuel
-  open_at = opened s at g.fuel g.enough
+-- an event: it is the next entry's
+pub record Next (y : Entry) (rest : List ℕ) (n : ℕ) (l : List Entry) : Type 0 where
+  pub more : List Entry
+  pub is : l ≡ y ∷ more
+  pub left : Left rest (suc n) more
 
-  read_at : read_from n (fields_from s open_at.more (field_at s at)) ≡ entries l
-  read_at = sym (ap (read_from n) open_at.same) ∙ g.same
+next-read : (y : Entry) (rest : List ℕ) (n : ℕ) (l : List Entry) (r : Read) → read_from (suc n) (fields_of rest) ≡ r → before y r ≡ entries l → Next y rest n l
+next-read y rest n l (entries m) e q = record { more = m; is = (cc); left = record { same = e } }
+next-read y rest n l (refused_at k) e q = absurd (cc)
 
-  pub left_end : length s ≤ at → l ≡ []
-  unfolding read_from
-  left_end h = let q = rw (at-end s at h) at read_at in cc
-
-  pub never-cut : field_at s at ≡ Cut → ⊥
-  unfolding read_from
-  never-cut e = let q = rw e at read_at in let z : ◌≡◌ {A = ℕ} 0 1 = cc in omega arith
-
-  -- the field at that place is the next entry, and it is an event's
-  pub record Next (tag start len next : ℕ) : Type 0 where
-    pub event : known tag len ≡ true
-    pub rest : List Entry
-    pub is : l ≡ record { tag = tag; body = take len (drop start s) } ∷ rest
-    pub left : Left s next (suc n) rest
-
-  pub left-next : (tag start len next : ℕ) → field_at s at ≡ Whole tag start len next → Next tag start len next
-  unfolding read_from
-  left-next tag start len next e =
-      let p = placed s at e in
-      let o = open_at in
-      let r =
-      read-on-from n (record { tag = tag; body = take len (drop start s) }) (read_as tag (take len (drop start s)))
-      (read_from (suc n) (fields_in o.more (drop next s))) l (rw e at read_at) in
-      record {
-        event = rw (length-body s start len (omega arith)) at (sym (known_is (take len (drop start s)) tag) ∙ r.good);
-        rest = r.rest;
-        is = r.is;
-        left = record { fuel = o.more; enough = omega (arith, o.enough); same = r.after };
-      }
+pub left-next : {s : List ℕ} {n : ℕ} {l : List Entry} (e : coded.Event) (rest : List ℕ) → Left s n l → (h : Splits s e rest) → Next h.entry rest n l
+left-next {s} {n} {l} e rest g h = next-read h.entry rest n l (read_from (suc n) (fields_of rest)) refl (rw (one_read n s e rest h) at g.same)

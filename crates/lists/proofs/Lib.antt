@@ -1,5 +1,3 @@
 -- What the proofs of several functions use.
-pub mod Known
-pub mod Bytes
 pub mod Turns
 pub mod Left

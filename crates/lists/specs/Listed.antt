@@ -1,35 +1,42 @@
 -- What the functions over lists of events promise. Definitions only: nothing is assumed.
-use Rattle.std.specs.Prelude.{Bool, not, cond, ◌&&◌, ℕ, length, eqb}
+use Rattle.std.specs.Prelude.{◌≡◌, List, ℕ, length, Some, None, Result, Ok, Err}
+use Rattle.std.specs.Prelude as std
 use Rattle.std.proofs.Math.Option.{Option, none, some}
-use Rattle.event.specs.Event.{Event, fire, deliver, lose, link, signal, Read, entries, refused_at}
+use Rattle.wire.specs.Wire.{Fields, end, cut, whole, fields_of}
+use Rattle.event.specs.Event.{Event, fire, deliver, lose, link, signal, Entry, read_as, Read, entries, refused_at}
+use Rattle.verdict.specs.declared.Reason.TheVariants.{BadList}
+use Rattle.verdict.specs.declared.Refusal.{Refusal}
 use Rattle.lists.specs.declared.Event as coded
-use Rattle.lists.specs.declared.Event.TheVariants.{Fire, Deliver, Lose, Link, Signal, Bad}
-use Rattle.lists.specs.declared.Counted.{Counted}
+use Rattle.lists.specs.declared.Event.TheVariants.{Fire, Deliver, Lose, Link, Signal}
 
--- the event that each case of the code's answer stands for, none where it is `Bad`
-abbrev pub as_read : coded.Event → Option Event
-as_read (Fire a) = some (fire a)
-as_read (Deliver a b) = some (deliver a b)
-as_read (Lose a b) = some (lose a b)
-as_read (Link a b d) = some (link a b d)
-as_read (Signal a s v) = some (signal a s v)
-as_read Bad = none
+-- the event that each case of the code's stands for
+abbrev pub event_in : coded.Event → Event
+event_in (Fire a) = fire a
+event_in (Deliver a b) = deliver a b
+event_in (Lose a b) = lose a b
+event_in (Link a b d) = link a b d
+event_in (Signal a s v) = signal a s v
+
+abbrev pub as_read : std.Option coded.Event → Option Event
+as_read (Some e) = some (event_in e)
+as_read None = none
+
+-- the fields begin with no event: there is none, or the first is cut short, or its tag or its length is no event's
+abbrev pub NoEvent : Fields → Type 0
+NoEvent end = Unit {0}
+NoEvent cut = Unit {0}
+NoEvent (whole tag s rest) = read_as tag s ≡ none
+
+-- the list s is an entry of the event e, and the bytes `rest` behind it
+pub record Splits (s : List ℕ) (e : coded.Event) (rest : List ℕ) : Type 0 where
+  pub entry : Entry
+  pub field : fields_of s ≡ whole entry.tag entry.body (fields_of rest)
+  pub event : read_as entry.tag entry.body ≡ some (event_in e)
 
 -- how many events a list has, or the place of its refusal
-abbrev pub all_read : ℕ → Counted
-all_read n = record { number = 0; place = 0; events = n }
+abbrev pub bad_list : ℕ → Refusal
+bad_list k = record { reason = BadList; place = k }
 
-abbrev pub refused_from : ℕ → Counted
-refused_from k = record { number = 12; place = k; events = 0 }
-
-abbrev pub count_of : Read → Counted
-count_of (entries l) = all_read (length l)
-count_of (refused_at k) = refused_from k
-
--- "one body byte for each item but the distance", 4 bytes: how many bytes a body has, 0 for a tag of no event
-abbrev pub body_length : ℕ → ℕ
-body_length tag = cond (eqb tag 0x10) 1 (cond (eqb tag 0x11) 2 (cond (eqb tag 0x12) 2 (cond (eqb tag 0x13) 6 (cond (eqb tag 0x14) 3 0))))
-
--- whether a tag and a length are an event's
-abbrev pub known : ℕ → ℕ → Bool
-known tag len = not (eqb (body_length tag) 0) && eqb (body_length tag) len
+abbrev pub count_of : Read → Result ℕ Refusal
+count_of (entries l) = Ok (length l)
+count_of (refused_at k) = Err (bad_list k)

@@ -1,158 +1,85 @@
-// Lists of events as bytes: how many there are, or where the list is refused, and the event of a field. Each exactly as the crate event defines it.
+// Lists of events as bytes: the event at the front of one, and how many there are, or where the list is refused. Each exactly as the crate event defines it.
 #![tactic(auto)]
 
-ghost use Rattle.std.specs.Prelude.{◌≡◌, ◌+◌, ◌≤◌, length, take, drop};
+ghost use Rattle.std.specs.Prelude.{◌≡◌, ◌<◌, length, MatchOption, IfSome};
 ghost use Rattle.wire.specs.Wire.{fields_of};
-ghost use Rattle.program.specs.Tree.{signed};
 ghost use Rattle.event.specs.Event.{read_as, read_list, read_one};
-ghost use Rattle.lists.specs.Listed.{as_read, all_read, refused_from, count_of, body_length, known};
+ghost use Rattle.lists.specs.Listed.{as_read, NoEvent, Splits, bad_list, count_of};
 
-#[derive(Drop)]
+use verdict::{Reason, Refusal};
+
+#[derive(Clone, Copy, Debug, PartialEq, Eq)]
 pub enum Event {
     Fire(u8),
     Deliver(u8, u8),
     Lose(u8, u8),
     Link(u8, u8, i32),
     Signal(u8, u8, u8),
-    Bad,
 }
 
-// A list's refusal and its place, 0 and 0 where it has none, and how many events it has, 0 where it is refused.
-#[derive(Drop)]
-pub struct Counted {
-    pub number: u32,
-    pub place: usize,
-    pub events: usize,
-}
-
-fn all_read(events: usize) -> Counted
-    ensures { result ≡ all_read events }
+// The event of a field with that tag and body, none where the tag is unknown or the length is wrong.
+#[tactic(auto, unfolding(event::specs::Event::read_as))]
+pub fn event_of(tag: u8, body: &[u8]) -> Option<Event>
+    ensures { as_read result ≡ read_as tag body.now }
 {
-    Counted {
-        number: 0,
-        place: 0,
-        events: events,
+    match (tag, body) {
+        (0x10, [a]) => Some(Event::Fire(*a)),
+        (0x11, [a, b]) => Some(Event::Deliver(*a, *b)),
+        (0x12, [a, b]) => Some(Event::Lose(*a, *b)),
+        (0x13, [a, b, h, i, j, k]) => {
+            let distance = i32::from_be_bytes([*h, *i, *j, *k]);
+            Some(Event::Link(*a, *b, distance))
+        }
+        (0x14, [a, sensor, switch]) => Some(Event::Signal(*a, *sensor, *switch)),
+        _ => None,
     }
 }
 
-// Refusal 12, with so many whole fields before it.
-fn refused(place: usize) -> Counted
-    ensures { result ≡ refused_from place }
+// The first event of a list and what stands behind it; none where no field is left, the first is cut short or it is no event.
+pub fn split_event(list: &[u8]) -> Option<(Event, &[u8])>
+    ensures first { MatchOption result (NoEvent (fields_of list.now)) (λ p. Splits list.now p.0 p.1.now) }
+    ensures shorter { IfSome result (λ p. length p.1.now < length list.now) }
 {
-    Counted {
-        number: 12,
-        place: place,
-        events: 0,
-    }
+    let (field, rest) = wire_reader::split_field(list)?;
+    let event = event_of(field.tag, field.body)?;
+    Some((event, rest))
 }
 
-// How many bytes the body of an event has, 0 for a tag of no event.
-fn body_length(tag: u8) -> usize
-    ensures { result ≡ body_length tag }
+// Refusal 12, with so many whole events before it.
+fn refused(place: usize) -> Refusal
+    ensures { result ≡ bad_list place }
 {
-    match tag {
-        0x10 => 1,
-        0x11 => 2,
-        0x12 => 2,
-        0x13 => 6,
-        0x14 => 3,
-        _ => 0,
-    }
-}
-
-// Whether there is an event of that tag and length.
-fn is_event(tag: u8, len: usize) -> bool
-    ensures { result ≡ known tag len }
-{
-    let n = body_length(tag);
-    if n == 0 {
-        return false;
-    }
-    n == len
-}
-
-// The number of 32 bits.
-fn number_of(w: u32) -> i32
-    ensures { result ≡ signed w }
-{
-    if w < 2147483648 {
-        w as i32
-    } else {
-        -1 - ((4294967295 - w) as i32)
-    }
-}
-
-// A link, whose six bytes begin at `start`.
-fn link_at(s: &[u8], start: usize) -> Event
-    requires { start + 6 ≤ length s.now }
-    ensures { as_read result ≡ read_as 0x13 (take 6 (drop start s.now)) }
-{
-    let w = wire_reader::be32(s[start + 2], s[start + 3], s[start + 4], s[start + 5]);
-    Event::Link(s[start], s[start + 1], number_of(w))
-}
-
-// The event of a field, whose body is the `len` bytes from `start`.
-pub fn event_of(s: &[u8], tag: u8, start: usize, len: usize) -> Event
-    requires { start + len ≤ length s.now }
-    ensures { as_read result ≡ read_as tag (take len (drop start s.now)) }
-{
-    if !is_event(tag, len) {
-        return Event::Bad;
-    }
-    match tag {
-        0x10 => Event::Fire(s[start]),
-        0x11 => Event::Deliver(s[start], s[start + 1]),
-        0x12 => Event::Lose(s[start], s[start + 1]),
-        0x13 => link_at(s, start),
-        _ => Event::Signal(s[start], s[start + 1], s[start + 2]),
+    Refusal {
+        reason: Reason::BadList,
+        place,
     }
 }
 
 // A list of any number of events.
-pub fn count_events(s: &[u8]) -> Counted
-    ensures { result ≡ count_of (read_list s.now) }
+pub fn count_events(list: &[u8]) -> Result<usize, Refusal>
+    ensures { result ≡ count_of (read_list list.now) }
 {
-    let mut at: usize = 0;
+    let mut rest = list;
     let mut n: usize = 0;
-    while at < s.len() {
-        let f = wire_reader::read_field(s, at);
-        let wire_reader::Field::Whole {
-            tag,
-            start,
-            len,
-            next,
-        } = f
-        else {
-            return refused(n); // cut short
+    while !rest.is_empty() {
+        let Some((_, after)) = split_event(rest) else {
+            return Err(refused(n)); // cut short, or no event
         };
-        if !is_event(tag, len) {
-            return refused(n);
-        }
-        at = next;
+        rest = after;
         n += 1;
     }
-    all_read(n)
+    Ok(n)
 }
 
 // A list of exactly one event.
-pub fn one_event(s: &[u8]) -> Counted
-    ensures { result ≡ count_of (read_one (fields_of s.now)) }
+pub fn one_event(list: &[u8]) -> Result<usize, Refusal>
+    ensures { result ≡ count_of (read_one (fields_of list.now)) }
 {
-    let f = wire_reader::read_field(s, 0);
-    let wire_reader::Field::Whole {
-        tag,
-        start,
-        len,
-        next,
-    } = f
-    else {
-        return refused(0); // no field, or cut short
+    let Some((_, rest)) = split_event(list) else {
+        return Err(refused(0)); // no field, cut short, or no event
     };
-    if !is_event(tag, len) {
-        return refused(0);
+    if !rest.is_empty() {
+        return Err(refused(1));
     }
-    if next < s.len() {
-        return refused(1);
-    }
-    all_read(1)
+    Ok(1)
 }

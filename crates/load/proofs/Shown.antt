@@ -10,11 +10,10 @@ use lib.Seq.{length-take-le, take-suc-set, get_or-take}
 use Rattle.program.specs.Table as program
 use Rattle.program.specs.Table.{Item, Definition, among, numbers, all_numbers, bodies, with_node, with_definition, node_limit, definition_limit}
 use Rattle.nodes.specs.declared.Node.{Node}
-use Rattle.nodes.specs.Body.{no_node}
 use Rattle.nodes.specs.Values.{node_of}
 use Rattle.program.proofs.Names.{among-append}
 use Rattle.load.specs.declared.Table.{Table}
-use Rattle.load.specs.Loads.{paired, table_of, node_at, Good}
+use Rattle.load.specs.Loads.{paired, table_of, blank, node_at, Good}
 use Rattle.load.specs.Steps.{put, define}
 
 length-paired : (cs bs : List ℕ) → length cs ≡ length bs → length (paired cs bs) ≡ length cs
@@ -31,7 +30,7 @@ paired_at (c ∷ cs) [] d x h l = absurd (omega arith)
 paired_at (c ∷ cs) (b ∷ bs) zero x h l = refl
 paired_at (c ∷ cs) (b ∷ bs) (suc d) x h l = paired_at cs bs d x (omega arith) (omega arith)
 
-map_at : (xs : List Node) (i : ℕ) (x : program.Node) → i < length xs → get_or (map node_of xs) i x ≡ node_of (get_or xs i no_node)
+map_at : (xs : List Node) (i : ℕ) (x : program.Node) → i < length xs → get_or (map node_of xs) i x ≡ node_of (get_or xs i blank)
 map_at [] i x h = absurd (omega arith)
 map_at (y ∷ ys) zero x h = refl
 map_at (y ∷ ys) (suc i) x h = map_at ys i x (omega arith)
@@ -79,7 +78,7 @@ module _ (t : Table) (g : Good t) where
   -- a node, whatever stands past the end
   pub shown-node : (i : ℕ) (x : program.Node) → i < t.n → get_or (table_of t).nodes i x ≡ node_of (node_at t i)
   unfolding table_of
-  shown-node i x l = map_at (take t.n t.nodes) i x (omega (arith, nodes-long)) ∙ ap node_of (get_or-take t.n t.nodes i no_node l)
+  shown-node i x l = map_at (take t.n t.nodes) i x (omega (arith, nodes-long)) ∙ ap node_of (get_or-take t.n t.nodes i blank l)
 
   pub shown-definitions : t.defs ≡ length (table_of t).definitions
   unfolding table_of

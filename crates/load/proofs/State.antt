@@ -9,7 +9,8 @@ use lib.ListN.{length, get_or, drop, set, replicate, length-set, length-drop, le
 use lib.Seq.{get_or-set_same, get_or-set_other}
 use lib.Dec.{eqb, leb}
 use borrow.Author.Tests.{eqb-true, eqb-false, eq-eqb, leb-false}
-use Rattle.shapes.specs.Kinds.{call_kind}
+use Rattle.shapes.specs.Kinds.{call_kind, number_of}
+use Rattle.shapes.proofs.ByKind.{kind-known, number-of-kind}
 use Rattle.program.specs.Table as program
 use Rattle.program.specs.Table.{Item, child, slot, keeps, among, beyond, numbers, all_numbers, bodies, values_in, definition_at, with_node, with_definition, node_limit}
 use Rattle.program.proofs.Items.{same-items}
@@ -31,7 +32,7 @@ use Rattle.refusal_rows.specs.Shows.{Shows}
 use Rattle.kinds.proofs.Clear.{NodeClear}
 use Rattle.refusal_rows.proofs.Clear.{DefinitionClear}
 use Rattle.load.specs.declared.Table.{Table}
-use Rattle.load.specs.Loads.{paired, table_of, node_at, GoodNode, Good}
+use Rattle.load.specs.Loads.{paired, table_of, blank, node_at, GoodNode, Good}
 use Rattle.load.specs.Steps.{empty_table, none_taken, put, add_kind, define}
 use Rattle.load.proofs.Shown.{shown-nodes, shown-put, shown-definitions, shown-definition, shown-define, among-numbers, among-bodies}
 
@@ -177,13 +178,14 @@ module _ (t : Table) (m : Taken) (st : State t m) (kind : ℕ) (s : List ℕ) (c
   unfolding put node_in made
   new-node =
       record {
-        kind = cl.known;
-        kids = same-kids kind count (get_or t.counts (item_of l s) 0) cl.known (λ q. ap (λ (d : ℕ). get_or t.counts d 0) (sym (call-item kind s q)));
+        long = refl;
+        kids = rw (number-of-kind kind cl.known) (same-kids kind count (get_or t.counts (item_of l s) 0) cl.known (λ q. ap (λ (d : ℕ). get_or t.counts d 0) (sym (call-item kind s q))));
         few = few;
-        range = range;
+        range = rw (number-of-kind kind cl.known) range;
         children = λ j h. rw (first-four ks j (let f = few in omega arith))
             (below_at t.n ks j cl.given (let r = cl.right in omega (arith, length-drop (width_of kind) s)));
-        definition = λ q. let d : item_of l s < t.defs = leb-false t.defs (item_of l s) (and_second (eqb l definition_item) _ cl.definition (eq-eqb l definition_item q)) in
+        definition = λ p. let q : l ≡ definition_item = rw (number-of-kind kind cl.known) at p in
+            let d : item_of l s < t.defs = leb-false t.defs (item_of l s) (and_second (eqb l definition_item) _ cl.definition (eq-eqb l definition_item q)) in
             (d, st.good.bodies (item_of l s) d);
       }
 
@@ -195,12 +197,12 @@ module _ (t : Table) (m : Taken) (st : State t m) (kind : ℕ) (s : List ℕ) (c
       go true q =
           let e : i ≡ t.n = eqb-true i t.n q in
           let room = cl.room in
-          rw (e, get_or-set_same t.nodes t.n x no_node (omega (arith, st.good.long_nodes))) new-node
+          rw (e, get_or-set_same t.nodes t.n x blank (omega (arith, st.good.long_nodes))) new-node
       go false q =
           let d : i ≡ t.n → ⊥ = eqb-false i t.n q in
           let g = st.good.nodes i (omega arith) in
-          rw (get_or-set_other t.nodes t.n i x no_node d)
-          (record { kind = g.kind; kids = g.kids; few = g.few; range = g.range; children = g.children; definition = g.definition })
+          rw (get_or-set_other t.nodes t.n i x blank d)
+          (record { long = g.long; kids = g.kids; few = g.few; range = g.range; children = g.children; definition = g.definition })
 
   pub put-state : State (add_kind t kind s) (takenAfter x m)
   unfolding put node_in made
@@ -218,8 +220,8 @@ module _ (t : Table) (m : Taken) (st : State t m) (kind : ℕ) (s : List ℕ) (c
           bodies = λ d h. let b = st.good.bodies d h in omega arith;
         };
         named = rw (put-shown, children) put-named;
-        slots = rw put-shown (put_item slot slot_item (λ q. low (inl q)) (node-slots kind count' s cl.known right') st.slots);
-        kept = rw put-shown (put_item keeps kept_item (λ q. low (inr q)) (node_kept kind count' s cl.known right') st.kept);
+        slots = rw (put-shown, number-of-kind kind cl.known) (put_item slot slot_item (λ q. low (inl q)) (node-slots kind count' s cl.known right') st.slots);
+        kept = rw (put-shown, number-of-kind kind cl.known) (put_item keeps kept_item (λ q. low (inr q)) (node_kept kind count' s cl.known right') st.kept);
       }
 
 -- one definition more
@@ -268,8 +270,8 @@ module _ (t : Table) (m : Taken) (st : State t m) (b : List ℕ) (cl : Definitio
   unfolding define
   old-node i x g =
       record {
-        kind = g.kind;
-        kids = g.kids ∙ same-kids x.kind (get_or t.counts x.item 0) (get_or (set t.counts t.defs c) x.item 0) g.kind call;
+        long = g.long;
+        kids = g.kids ∙ same-kids (number_of x.kind) (get_or t.counts x.item 0) (get_or (set t.counts t.defs c) x.item 0) (kind-known x.kind) call;
         few = g.few;
         range = g.range;
         children = g.children;
@@ -278,9 +280,9 @@ module _ (t : Table) (m : Taken) (st : State t m) (b : List ℕ) (cl : Definitio
             (omega arith, rw (get_or-set_other t.bodies t.defs x.item body 0 (λ e. omega arith)) (g.definition q).1);
       }
     where
-      call : x.kind ≡ call_kind → get_or t.counts x.item 0 ≡ get_or (set t.counts t.defs c) x.item 0
+      call : number_of x.kind ≡ call_kind → get_or t.counts x.item 0 ≡ get_or (set t.counts t.defs c) x.item 0
       call q =
-          let l : lead_of x.kind ≡ definition_item = ap lead_of q in
+          let l : lead_of (number_of x.kind) ≡ definition_item = ap lead_of q in
           let d = (g.definition l).0 in
           sym (get_or-set_other t.counts t.defs x.item c 0 (λ e. omega arith))
 

@@ -1,14 +1,16 @@
 -- What loading comes to: the table that a loaded one stands for, what is known of a loaded one, and the loader's contract.
-use Rattle.std.specs.Prelude.{◌≡◌, List, [], ◌∷◌, map, ℕ, ◌≤◌, ◌<◌, length, get_or, take}
-use Rattle.program.specs.Table.{node_limit, definition_limit, kind_count}
+use Rattle.std.specs.Prelude.{◌≡◌, List, [], ◌∷◌, map, ℕ, ◌≤◌, ◌<◌, length, get_or, take, Result, Ok, Err, IfOk}
+use Rattle.program.specs.Table.{node_limit, definition_limit}
 use Rattle.program.specs.Table as program
+use Rattle.verdict.specs.declared.Refusal.{Refusal}
+use Rattle.verdict.specs.Outcome.{refusal_at}
 use Rattle.nodes.specs.declared.Node.{Node}
+use Rattle.shapes.specs.Kinds.{number_of}
 use Rattle.shapes.specs.Shapes.{lead_of, kids_of, byte_values, definition_item}
-use Rattle.nodes.specs.Body.{no_node}
+use Rattle.shapes.specs.declared.Kind.TheVariants.{Constant}
 use Rattle.nodes.specs.Ranges.{Ranges}
 use Rattle.nodes.specs.Values.{node_of}
 use Rattle.load.specs.declared.Table.{Table}
-use Rattle.load.specs.declared.Outcome.{Outcome}
 
 -- definitions from their counts of parameters and their bodies
 unfoldable pub paired : List ℕ → List ℕ → List program.Definition
@@ -23,19 +25,23 @@ table_of t =
       definitions = paired (take t.defs t.counts) (take t.defs t.bodies);
     }
 
-abbrev pub node_at : Table → ℕ → Node
-node_at t i = get_or t.nodes i no_node
+-- what reading past a table's nodes would give, which no code does
+abbrev pub blank : Node
+blank = record { kind = Constant; item = 0; kids = 0; children = []; constant = 0 }
 
--- node i: its kind, the number of its children, its item in its range, and what it names stands before it
+abbrev pub node_at : Table → ℕ → Node
+node_at t i = get_or t.nodes i blank
+
+-- node i: the number of its children, its item in its range, and what it names stands before it
 pub record GoodNode (t : Table) (i : ℕ) (x : Node) : Type 0 where
-  pub kind : x.kind < kind_count
+  pub long : length x.children ≡ 4
   -- as many children as the kind has; a call has those of its definition
-  pub kids : x.kids ≡ kids_of x.kind (get_or t.counts x.item 0)
+  pub kids : x.kids ≡ kids_of (number_of x.kind) (get_or t.counts x.item 0)
   pub few : x.kids ≤ 4
-  pub range : Ranges (lead_of x.kind) x.item x.constant
-  pub children : (j : ℕ) → j < x.kids → get_or (x.a ∷ x.b ∷ x.c ∷ x.d ∷ []) j 0 < i
+  pub range : Ranges (lead_of (number_of x.kind)) x.item x.constant
+  pub children : (j : ℕ) → j < x.kids → get_or x.children j 0 < i
   -- a fold by definition, a call
-  pub definition : lead_of x.kind ≡ definition_item → (x.item < t.defs) × (get_or t.bodies x.item 0 < i)
+  pub definition : lead_of (number_of x.kind) ≡ definition_item → (x.item < t.defs) × (get_or t.bodies x.item 0 < i)
 
 pub record Good (t : Table) : Type 0 where
   pub long_nodes : length t.nodes ≡ node_limit
@@ -54,7 +60,12 @@ pub record IsLoaded (s : List ℕ) (t : Table) : Type 0 where
   pub main_given : t.main < t.n
   pub good : Good t
 
-pub record Loads (s : List ℕ) (r : Outcome) : Type 0 where
-  pub number : r.number ≡ (program.load s).number
-  pub place : r.place ≡ (program.load s).place
-  pub loaded : r.number ≡ 0 → IsLoaded s r.table
+-- 0 and 0, or the refusal
+abbrev pub outcome_of : Result Table Refusal → ℕ × ℕ
+outcome_of (Ok t) = (0, 0)
+outcome_of (Err r) = refusal_at r
+
+pub record Loads (s : List ℕ) (r : Result Table Refusal) : Type 0 where
+  pub number : (outcome_of r).0 ≡ (program.load s).number
+  pub place : (outcome_of r).1 ≡ (program.load s).place
+  pub loaded : IfOk r (IsLoaded s)

@@ -11,6 +11,7 @@ use Rattle.program.specs.Table.{kind_count, Item, keeps, slot, child, definition
 use Rattle.program.proofs.Items.{same-items, length-values}
 use Rattle.nodes.specs.Values.{head_of, children_of, node_of}
 use Rattle.shapes.specs.Kinds.{call_kind}
+use Rattle.shapes.proofs.ByKind.{number-of-kind}
 use Rattle.shapes.specs.Shapes.{kept_item, slot_item, definition_item, lead_of, width_of, kids_of, inside}
 use Rattle.nodes.specs.Body.{item_of, constant_of, made}
 use Rattle.nodes.proofs.Items.{first, items-are, values-are, lead-below, first-values, first-outside, first-child, first-kept, first_slot, first-definition}
@@ -92,7 +93,7 @@ module _ (kind count : ℕ) (s : List ℕ) (known : kind < kind_count) (right : 
   unfolding node_of made
   node_made h =
       let e : take (kids_of kind count) (get_or ks 0 0 ∷ get_or ks 1 0 ∷ get_or ks 2 0 ∷ get_or ks 3 0 ∷ []) ≡ ks = four (kids_of kind count) ks h kids-length in
-      cc (node-values)
+      rw (number-of-kind kind known) (cc (node-values))
 
   pub children-made : kids_of kind count ≤ 4 → children_of (made kind l (kids_of kind count) s ks) ≡ ks
   unfolding made

@@ -4,16 +4,15 @@
 ghost use Rattle.std.specs.Prelude.{◌≡◌, get_or};
 ghost use Rattle.nodes.specs.Body.{no_node};
 
-// item: the byte that is no child (operator, parameter, variable, slot, definition); kids: how many of a to d are children.
+use shapes::Kind;
+
+// item: the byte that is no child (operator, parameter, variable, slot, definition); kids: how many of the children there are, the others being 0.
 #[derive(Clone, Copy)]
 pub struct Node {
-    pub kind: u8,
+    pub kind: Kind,
     pub item: u8,
     pub kids: u8,
-    pub a: u8,
-    pub b: u8,
-    pub c: u8,
-    pub d: u8,
+    pub children: [u8; 4],
     pub constant: u32,
 }
 
@@ -21,7 +20,7 @@ pub struct Node {
 pub fn get(s: &[u8], i: usize) -> u8
     ensures { result ≡ get_or s.now i 0 }
 {
-    if i < s.len() { s[i] } else { 0 }
+    s.get(i).copied().unwrap_or(0)
 }
 
 // What the table holds where no node is.
@@ -29,13 +28,10 @@ pub fn none() -> Node
     ensures { result ≡ no_node }
 {
     Node {
-        kind: 0,
+        kind: Kind::Constant,
         item: 0,
         kids: 0,
-        a: 0,
-        b: 0,
-        c: 0,
-        d: 0,
+        children: [0; 4],
         constant: 0,
     }
 }

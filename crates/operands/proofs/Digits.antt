@@ -11,6 +11,6 @@ use Rattle.operands.specs.Formed.{widths, packed}
 digit : ℕ → Bool
 digit f = eqb (packed widths / 2 ^ (2 * f) % 4) (get_or widths f 0)
 
-pub width-digit : (f : ℕ) → f < 32 → packed widths / 2 ^ (2 * f) % 4 ≡ get_or widths f 0
+pub width_digit : (f : ℕ) → f < 32 → packed widths / 2 ^ (2 * f) % 4 ≡ get_or widths f 0
 unfolding digit
-width-digit f h = eqb-true _ _ (all-below digit 32 refl f h)
+width_digit f h = eqb-true _ _ (all-below digit 32 refl f h)

@@ -1,6 +1,6 @@
 -- A table of words whose nodes name only nodes below themselves: what every pass over it requires. Internal: no contract of a C function cites it. Definitions
 -- only: nothing is assumed.
-use Rattle.std.specs.Prelude.{◌≡◌, Bool, cond, List, [], ◌∷◌, ℕ, ◌+◌, ◌*◌, ◌/◌, ◌%◌, ◌^◌, ◌<◌, ◌≤◌, get_or, eqb, ltb}
+use Rattle.std.specs.Prelude.{◌≡◌, Bool, true, cond, List, [], ◌∷◌, ℕ, ◌+◌, ◌*◌, ◌/◌, ◌%◌, ◌^◌, ◌<◌, ◌≤◌, get_or, eqb, ltb}
 use Rattle.program.specs.Table.{node_limit}
 use Rattle.program.specs.Tree.{Expr, nothing}
 use Rattle.bits.specs.Bits.{has_bit, bits_of}
@@ -84,6 +84,17 @@ pub record AllFormed (ws : List ℕ) : Type 0 where
 pub record Empty (ws : List ℕ) (n : ℕ) : Type 0 where
   pub rest : (k : ℕ) → n ≤ k → word ws k ≡ 0
 
+-- node n has an operand j, which is node m; a body, which is node m
+pub record Operand (ws : List ℕ) (n j m : ℕ) : Type 0 where
+  pub has : j < width (word ws n)
+  pub is : m ≡ operand (word ws n) j
+  pub below : m < n
+
+pub record Body (ws : List ℕ) (n m : ℕ) : Type 0 where
+  pub has : has_body (word ws n) ≡ true
+  pub is : m ≡ operand (word ws n) body_at
+  pub below : m < n
+
 -- the tree of operand j of a word, nothing where it has none
 abbrev pub part : List ℕ → ℕ → ℕ → Expr
 part ws w j = cond (ltb j (width w)) (tree_at ws (operand w j)) nothing
@@ -91,3 +102,7 @@ part ws w j = cond (ltb j (width w)) (tree_at ws (operand w j)) nothing
 -- what is noted of operand j of a word in a column, a node an entry; d where it has none
 abbrev pub part_note : {A : Type 0} → A → List A → ℕ → ℕ → A
 part_note d notes w j = cond (ltb j (width w)) (get_or notes (operand w j) d) d
+
+-- what is noted of the body of a word
+abbrev pub body_note : {A : Type 0} → A → List A → ℕ → A
+body_note d notes w = cond (has_body w) (get_or notes (operand w body_at) d) d

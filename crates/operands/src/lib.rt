@@ -1,10 +1,11 @@
 // The nodes that a word names: how many operands it has, which they are. And what its form says besides.
 #![tactic(auto)]
 
-ghost use Rattle.std.specs.Prelude.{◌≡◌, ◌<◌};
+ghost use Rattle.std.specs.Prelude.{◌≡◌, false, ◌<◌, ◌≤◌, MatchOption};
+ghost use Rattle.program.specs.Table.{node_limit};
 ghost use Rattle.bits.specs.Bits.{has_bit};
-ghost use Rattle.words.specs.Word.{form};
-ghost use Rattle.operands.specs.Formed.{width, operand as operand_at};
+ghost use Rattle.words.specs.Word.{form, word};
+ghost use Rattle.operands.specs.Formed.{width, operand as operand_at, has_body, part_note, body_note, AllFormed, Operand, Body};
 
 use unpack::{count_of, form_of};
 
@@ -49,14 +50,16 @@ pub fn is(w: u64, set: u32) -> bool
     (set >> form_of(w)) % 2 == 1
 }
 
+#[tactic(auto, using(crate::proofs::Digits::width_digit), unfolding(crate::specs::Formed::width))]
 pub fn width_of(w: u64) -> u8
     ensures { result ≡ width w }
 {
     let form = form_of(w);
     if form == unpack::CALL {
-        return count_of(w);
+        count_of(w)
+    } else {
+        ((WIDTHS >> (2 * (form as u32))) % 4) as u8
     }
-    ((WIDTHS >> (2 * (form as u32))) % 4) as u8
 }
 
 // The body, as an operand.
@@ -68,4 +71,54 @@ pub fn operand(w: u64, j: u32) -> usize
     ensures { result ≡ operand_at w j }
 {
     ((w >> (9 + 10 * j)) % 1024) as usize
+}
+
+// A table of words in which each node has a known form and names only nodes below itself, as every pass over it requires.
+#[derive(Clone, Copy)]
+pub struct Words<'a> {
+    pub all: &'a [u64; layout::NODES],
+    pub ghost formed: { AllFormed all.now },
+}
+
+impl Words<'_> {
+    // The node that operand j of node n names, where it has so many.
+    pub fn named(self, n: usize, j: u32) -> Option<usize>
+        requires { (n < node_limit) × (j < 4) }
+        ensures { MatchOption result (width (word self.entry.all.now n) ≤ j) (Operand self.entry.all.now n j) }
+    {
+        let w = self.all[n];
+        (j < u32::from(width_of(w))).then_some(operand(w, j))
+    }
+
+    // The body that node n calls or folds by, where it does.
+    #[tactic(auto, using(crate::proofs::Below::body_below))]
+    pub fn body(self, n: usize) -> Option<usize>
+        requires { n < node_limit }
+        ensures { MatchOption result (has_body (word self.entry.all.now n) ≡ false) (Body self.entry.all.now n) }
+    {
+        let w = self.all[n];
+        is(w, BODY).then_some(operand(w, BODY_AT))
+    }
+
+    // What is noted of operand j of node n, an entry a node; `none` where it has no such operand.
+    pub fn noted<T: Copy>(self, n: usize, j: u32, notes: &[T; layout::NODES], none: T) -> T
+        requires { (n < node_limit) × (j < 4) }
+        ensures { result ≡ part_note none notes.now (word self.entry.all.now n) j }
+    {
+        match self.named(n, j) {
+            Some(m) => notes[m],
+            None => none,
+        }
+    }
+
+    // What is noted of its body.
+    pub fn body_noted<T: Copy>(self, n: usize, notes: &[T; layout::NODES], none: T) -> T
+        requires { n < node_limit }
+        ensures { result ≡ body_note none notes.now (word self.entry.all.now n) }
+    {
+        match self.body(n) {
+            Some(m) => notes[m],
+            None => none,
+        }
+    }
 }

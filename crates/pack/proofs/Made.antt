@@ -1,15 +1,15 @@
 -- A word of a node makes the tree that the node makes, from the same trees below; and its sort, and whether its operands' sorts are broken, are as the
 -- kind and the children's sorts say. Assumes nothing.
-use mathlib.Core.Path.{◌≡◌, refl, sym, ap, subst}
+use mathlib.Core.Path.{◌≡◌, refl, sym, subst}
 use mathlib.Core.Bool.{Bool, true, false, not, cond, ◌||◌}
-use mathlib.Core.List.{List}
+use mathlib.Core.List.{List, [], ◌∷◌}
 use Prim.Native.Nat.{ℕ, zero, suc, ◌<◌, ◌≤◌}
 use native.Mathlib.Omega.{arith}
-use lib.ListN.{get_or}
+use lib.ListN.{length, get_or}
 use lib.Dec.{leb, ltb}
-use Rattle.shapes.proofs.ByKind.{by_kind}
+use Rattle.shapes.proofs.ByKind.{by_kind, kind-known, kind-of-number}
 use Rattle.words.specs.Form.{operator_form, if_form, field_if_form, field_operator_form, field_forms}
-use Rattle.shapes.specs.Kinds.{operator_kind, if_kind, call_kind}
+use Rattle.shapes.specs.Kinds.{number_of, kind_at, operator_kind, if_kind, call_kind}
 use Rattle.program.specs.Table.{Definition, no_definition, kind_count}
 use Rattle.program.specs.Tree.{Expr, tree_of, is_field, sort_broken}
 use Rattle.words.specs.Trees.{at, made}
@@ -17,21 +17,19 @@ use Rattle.nodes.specs.declared.Node.{Node}
 use Rattle.shapes.specs.Shapes.{lead_of, kids_of, definition_item}
 use Rattle.nodes.specs.Values.{node_of}
 use Rattle.encode.specs.Parts.{form_by, IsWord}
-use Rattle.sorts.specs.declared.Flags.{Flags}
 use Rattle.sorts.specs.Sorts.{differs, broken_by}
 
 -- child j, of so many, is a field
 abbrev pub flag_in : List Expr → ℕ → ℕ → ℕ → Bool
 flag_in es kids j k = cond (ltb j kids) (is_field (at es k)) false
 
-abbrev pub flags_of : List Expr → Node → Flags
+abbrev pub flags_of : List Expr → Node → List Bool
 flags_of es x =
-    record {
-      a = flag_in es x.kids 0 x.a;
-      b = flag_in es x.kids 1 x.b;
-      c = flag_in es x.kids 2 x.c;
-      d = flag_in es x.kids 3 x.d;
-    }
+    flag_in es x.kids 0 (get_or x.children 0 0)
+    ∷ flag_in es x.kids 1 (get_or x.children 1 0)
+    ∷ flag_in es x.kids 2 (get_or x.children 2 0)
+    ∷ flag_in es x.kids 3 (get_or x.children 3 0)
+    ∷ []
 
 field-operator : (z : Bool) → leb field_forms (cond z field_operator_form operator_form) ≡ z
 field-operator true = refl
@@ -50,7 +48,7 @@ differ-sorts false false false = refl
 module _ (ds : List Definition) (es : List Expr) (n item a b c d constant : ℕ) where
   -- a node with as many children as its kind has
   abbrev node : ℕ → ℕ → Node
-  node kind count = record { kind = kind; item = item; kids = kids_of kind count; a = a; b = b; c = c; d = d; constant = constant }
+  node kind count = record { kind = kind_at kind; item = item; kids = kids_of kind count; children = a ∷ b ∷ c ∷ d ∷ []; constant = constant }
 
   module _ (o w : ℕ) where
     abbrev Body : ℕ → Type 0
@@ -99,7 +97,7 @@ module _ (ds : List Definition) (es : List Expr) (n item a b c d constant : ℕ)
 
   abbrev Fielded : ℕ → ℕ → Type 0
   Fielded kind count =
-      leb field_forms (form_by kind ((flags_of es (node kind count)).a || (flags_of es (node kind count)).b) (flags_of es (node kind count)).b)
+      leb field_forms (form_by kind (get_or (flags_of es (node kind count)) 0 false || get_or (flags_of es (node kind count)) 1 false) (get_or (flags_of es (node kind count)) 1 false))
       ≡ is_field (tree_of ds es n (node_of (node kind count)))
 
   field-node : (kind count : ℕ) → kind < kind_count → Fielded kind count
@@ -158,26 +156,40 @@ module _ (ds : List Definition) (es : List Expr) (n item a b c d constant : ℕ)
       calls (suc (suc (suc (suc (suc m))))) l = absurd (omega arith)
 
 -- ---- the same of a node with its own number of children
-module _ (ds : List Definition) (es : List Expr) (n : ℕ) (x : Node) (count : ℕ) (h : x.kind < kind_count) (few : x.kids ≤ 4) (e : x.kids ≡ kids_of x.kind count) where
-  l : kids_of x.kind count ≤ 4
-  l = subst (λ (k : ℕ). k ≤ 4) e few
+four-items : (ks : List ℕ) → length ks ≡ 4 → get_or ks 0 0 ∷ get_or ks 1 0 ∷ get_or ks 2 0 ∷ get_or ks 3 0 ∷ [] ≡ ks
+four-items (a ∷ b ∷ c ∷ d ∷ []) h = refl
+four-items [] h = absurd (omega arith)
+four-items (a ∷ []) h = absurd (omega arith)
+four-items (a ∷ b ∷ []) h = absurd (omega arith)
+four-items (a ∷ b ∷ c ∷ []) h = absurd (omega arith)
+four-items (a ∷ b ∷ c ∷ d ∷ x ∷ xs) h = absurd (omega arith)
 
-  with_kids : x ≡ node ds es n x.item x.a x.b x.c x.d x.constant x.kind count
-  with_kids =
-      ap (λ (k : ℕ). record { kind = x.kind; item = x.item; kids = k; a = x.a; b = x.b; c = x.c; d = x.d; constant = x.constant }) e
+module _ (ds : List Definition) (es : List Expr) (n : ℕ) (x : Node) (count : ℕ) (long : length x.children ≡ 4) (few : x.kids ≤ 4) (e : x.kids ≡ kids_of (number_of x.kind) count) where
+  abbrev k : ℕ
+  k = number_of x.kind
 
-  pub made-is : (o w : ℕ) (s t : Bool) → (lead_of x.kind ≡ definition_item → (get_or ds x.item no_definition).body ≡ o) → IsWord x o s t w
+  abbrev kid : ℕ → ℕ
+  kid j = get_or x.children j 0
+
+  l : kids_of k count ≤ 4
+  l = subst (λ (m : ℕ). m ≤ 4) e few
+
+  with_kids : x ≡ node ds es n x.item (kid 0) (kid 1) (kid 2) (kid 3) x.constant k count
+  with_kids = rw (kind-of-number x.kind, ← e, four-items x.children long)
+
+  pub made-is : (o w : ℕ) (s t : Bool) → (lead_of k ≡ definition_item → (get_or ds x.item no_definition).body ≡ o) → IsWord x o s t w
       → made n es w ≡ tree_of ds es n (node_of x)
   made-is o w s t g r =
       subst (λ (y : Node). IsWord y o s t w → made n es w ≡ tree_of ds es n (node_of y)) (sym with_kids)
-      (made-node ds es n x.item x.a x.b x.c x.d x.constant o w x.kind count s t h l g) r
+      (made-node ds es n x.item (kid 0) (kid 1) (kid 2) (kid 3) x.constant o w k count s t (kind-known x.kind) l g) r
 
-  pub field_is : leb field_forms (form_by x.kind ((flags_of es x).a || (flags_of es x).b) (flags_of es x).b) ≡ is_field (tree_of ds es n (node_of x))
+  pub field_is : leb field_forms (form_by k (get_or (flags_of es x) 0 false || get_or (flags_of es x) 1 false) (get_or (flags_of es x) 1 false)) ≡ is_field (tree_of ds es n (node_of x))
   field_is =
-      subst (λ (y : Node). leb field_forms (form_by y.kind ((flags_of es y).a || (flags_of es y).b) (flags_of es y).b) ≡ is_field (tree_of ds es n (node_of y))) (sym with_kids)
-      (field-node ds es n x.item x.a x.b x.c x.d x.constant x.kind count h)
+      subst (λ (y : Node). leb field_forms (form_by k (get_or (flags_of es y) 0 false || get_or (flags_of es y) 1 false) (get_or (flags_of es y) 1 false))
+      ≡ is_field (tree_of ds es n (node_of y))) (sym with_kids)
+      (field-node ds es n x.item (kid 0) (kid 1) (kid 2) (kid 3) x.constant k count (kind-known x.kind))
 
-  pub broken-is : broken_by x.kind (flags_of es x) ≡ sort_broken (tree_of ds es n (node_of x))
+  pub broken-is : broken_by k (flags_of es x) ≡ sort_broken (tree_of ds es n (node_of x))
   broken-is =
-      subst (λ (y : Node). broken_by y.kind (flags_of es y) ≡ sort_broken (tree_of ds es n (node_of y))) (sym with_kids)
-      (broken-node ds es n x.item x.a x.b x.c x.d x.constant x.kind count h l)
+      subst (λ (y : Node). broken_by k (flags_of es y) ≡ sort_broken (tree_of ds es n (node_of y))) (sym with_kids)
+      (broken-node ds es n x.item (kid 0) (kid 1) (kid 2) (kid 3) x.constant k count (kind-known x.kind) l)

@@ -9,7 +9,8 @@ use lib.Seq.{get_or-set_same, get_or-set_other}
 use lib.Dec.{eqb, leb, ltb}
 use borrow.Author.Count.{below_none, below_more}
 use borrow.Author.Tests.{eqb-true, eq-eqb, ltb-true, ltb-false, leb-true, leb-false, lt-ltb}
-use Rattle.shapes.specs.Kinds.{operator_kind}
+use Rattle.shapes.specs.Kinds.{operator_kind, number_of}
+use Rattle.shapes.proofs.ByKind.{kind-known}
 use Rattle.program.specs.Table.{Definition, no_definition, among, bodies, node_limit}
 use Rattle.program.specs.Tree.{Expr, tree_of, trees, tree, is_field, sort_broken}
 use Rattle.program.specs.Check.{sort_offends}
@@ -29,7 +30,6 @@ use Rattle.load.proofs.Shown.{shown-nodes, shown-node, shown-definition, shown-b
 use Rattle.load.specs.Loads.{table_of, node_at, GoodNode, Good}
 use Rattle.encode.specs.Parts.{form_by, item_by, kid, IsParts, Fits, Childless, IsWord}
 use Rattle.encode.proofs.Words.{Shape, shape, item-fits, form-is}
-use Rattle.sorts.specs.declared.Flags.{Flags}
 use Rattle.sorts.specs.Sorts.{is_field_at, part_field, flags_in, broken_by, first_bad, lower_field, lowest_field}
 use Rattle.sorts.proofs.ByKind.{no_fields}
 use Rattle.pack.specs.Packs.{Packs}
@@ -50,7 +50,7 @@ among-taken (b ∷ bs) (suc m) (suc d) h l = rw (among-taken bs m d (omega arith
 abbrev first : Table → ℕ → List Expr
 first t k = firsts (table_of t).definitions (table_of t).nodes k
 
-abbrev flags : Table → ℕ → Flags
+abbrev flags : Table → ℕ → List Bool
 flags t k = flags_of (first t k) (node_at t k)
 
 abbrev body_of : Table → ℕ → ℕ
@@ -60,10 +60,11 @@ abbrev count_of : Table → ℕ → ℕ
 count_of t k = get_or t.counts (node_at t k).item 0
 
 abbrev Worded : Table → ℕ → ℕ → Type 0
-Worded t k w = IsWord (node_at t k) (body_of t k) ((flags t k).a || (flags t k).b) (flags t k).b w
+Worded t k w = IsWord (node_at t k) (body_of t k) (get_or (flags t k) 0 false || get_or (flags t k) 1 false) (get_or (flags t k) 1 false) w
 
 abbrev PartsOf : Table → ℕ → ℕ → Type 0
-PartsOf t k w = IsParts (form_by (node_at t k).kind ((flags t k).a || (flags t k).b) (flags t k).b) (item_by (node_at t k).kind (node_at t k).item) (node_at t k) (body_of t k) w
+PartsOf t k w = IsParts (form_by (number_of (node_at t k).kind) (get_or (flags t k) 0 false || get_or (flags t k) 1 false) (get_or (flags t k) 1 false))
+    (item_by (number_of (node_at t k).kind) (node_at t k).item) (node_at t k) (body_of t k) w
 
 abbrev broken : Table → ℕ → Bool
 broken t k = sort_broken (tree (table_of t) k)
@@ -100,7 +101,7 @@ module _ (t : Table) (g : Good t) where
     good = g.nodes k h
 
     pub fits : Fits (node_at t k)
-    fits = record { kind = good.kind; kids = good.few; item = (item-fits (node_at t k).kind (node_at t k).item (node_at t k).constant good.range).0 }
+    fits = record { kids = good.few; item = (item-fits (number_of (node_at t k).kind) (node_at t k).item (node_at t k).constant good.range).0 }
 
     tree-node : tree (table_of t) k ≡ tree_of (table_of t).definitions (first t k) k (node_of (node_at t k))
     unfolding trees
@@ -111,27 +112,28 @@ module _ (t : Table) (g : Good t) where
     field-word : (w : ℕ) → Worded t k w → leb field_forms (form w) ≡ is_field (tree (table_of t) k)
     field-word w r =
         ap (leb field_forms) (form-is r)
-        ∙ field_is (table_of t).definitions (first t k) k (node_at t k) (count_of t k) good.kind good.few good.kids
+        ∙ field_is (table_of t).definitions (first t k) k (node_at t k) (count_of t k) good.long good.few good.kids
         ∙ ap is_field (sym tree-node)
 
-    broken-word : broken_by (node_at t k).kind (flags t k) ≡ sort_broken (tree (table_of t) k)
+    broken-word : broken_by (number_of (node_at t k).kind) (flags t k) ≡ sort_broken (tree (table_of t) k)
     broken-word =
-        broken-is (table_of t).definitions (first t k) k (node_at t k) (count_of t k) good.kind good.few good.kids
+        broken-is (table_of t).definitions (first t k) k (node_at t k) (count_of t k) good.long good.few good.kids
         ∙ ap sort_broken (sym tree-node)
 
     makes : (w : ℕ) → Worded t k w
         → made k (first t k) w ≡ tree_of (table_of t).definitions (first t k) k (get_or (table_of t).nodes k (node_of no_node))
     makes w r =
-        made-is (table_of t).definitions (first t k) k (node_at t k) (count_of t k) good.kind good.few good.kids
-        (body_of t k) w ((flags t k).a || (flags t k).b) (flags t k).b (λ e. ap (λ (d : Definition). d.body) (shown-definition t g (node_at t k).item no_definition (good.definition e).0)) r
+        made-is (table_of t).definitions (first t k) k (node_at t k) (count_of t k) good.long good.few good.kids
+        (body_of t k) w (get_or (flags t k) 0 false || get_or (flags t k) 1 false) (get_or (flags t k) 1 false)
+        (λ e. ap (λ (d : Definition). d.body) (shown-definition t g (node_at t k).item no_definition (good.definition e).0)) r
         ∙ ap (tree_of (table_of t).definitions (first t k) k) (sym (shown-node t g k (node_of no_node) h))
 
     -- the node's shape, of its word's form
     module _ (ws : List ℕ) (r : Worded t k (word ws k)) where
-      shaped : Shape (node_at t k).kind (count_of t k) (form (word ws k))
+      shaped : Shape (number_of (node_at t k).kind) (count_of t k) (form (word ws k))
       shaped =
-          subst (Shape (node_at t k).kind (count_of t k)) (sym (form-is r))
-          (shape (node_at t k).kind (count_of t k) ((flags t k).a || (flags t k).b) (flags t k).b good.kind)
+          subst (Shape (number_of (node_at t k).kind) (count_of t k)) (sym (form-is r))
+          (shape (number_of (node_at t k).kind) (count_of t k) (get_or (flags t k) 0 false || get_or (flags t k) 1 false) (get_or (flags t k) 1 false) (kind-known (node_at t k).kind))
 
       parts : (0 < form (word ws k)) → PartsOf t k (word ws k)
       parts l = r.is_parts (λ e. omega (arith, (r.is_constant e).is_form))
@@ -144,7 +146,7 @@ module _ (t : Table) (g : Good t) where
       wide = go (eqb (form (word ws k)) call_form) refl shaped.width
         where
           go : (b : Bool) → eqb (form (word ws k)) call_form ≡ b
-              → cond b (count_of t k) (get_or widths (form (word ws k)) 0) ≡ kids_of (node_at t k).kind (count_of t k)
+              → cond b (count_of t k) (get_or widths (form (word ws k)) 0) ≡ kids_of (number_of (node_at t k).kind) (count_of t k)
               → cond b (count (word ws k)) (get_or widths (form (word ws k)) 0) ≡ (node_at t k).kids
           go true q e = (parts (omega (arith, eqb-true (form (word ws k)) call_form q))).is_count
           go false q e = e ∙ sym good.kids
@@ -159,16 +161,16 @@ module _ (t : Table) (g : Good t) where
           go true q = f (ltb-true j (node_at t k).kids q)
           go false q = z
 
-      bodied : (eqb (form (word ws k)) fold_by_form || eqb (form (word ws k)) call_form) ≡ true → lead_of (node_at t k).kind ≡ definition_item
-      bodied e = eqb-true (lead_of (node_at t k).kind) definition_item (sym shaped.bodied ∙ e)
+      bodied : (eqb (form (word ws k)) fold_by_form || eqb (form (word ws k)) call_form) ≡ true → lead_of (number_of (node_at t k).kind) ≡ definition_item
+      bodied e = eqb-true (lead_of (number_of (node_at t k).kind)) definition_item (sym shaped.bodied ∙ e)
 
-      eight : form (word ws k) ≡ fold_by_form → lead_of (node_at t k).kind ≡ definition_item
+      eight : form (word ws k) ≡ fold_by_form → lead_of (number_of (node_at t k).kind) ≡ definition_item
       eight e = bodied (rw e)
 
-      nine : form (word ws k) ≡ call_form → lead_of (node_at t k).kind ≡ definition_item
+      nine : form (word ws k) ≡ call_form → lead_of (number_of (node_at t k).kind) ≡ definition_item
       nine e = bodied (rw e)
 
-      body-low : lead_of (node_at t k).kind ≡ definition_item → 0 < form (word ws k) → body (word ws k) < k
+      body-low : lead_of (number_of (node_at t k).kind) ≡ definition_item → 0 < form (word ws k) → body (word ws k) < k
       body-low e l = rw (parts l).is_body (good.definition e).1
 
       formed-node : Formed ws k
@@ -195,8 +197,9 @@ module _ (t : Table) (g : Good t) where
 
       param-node : form (word ws k) ≡ parameter_form → item (word ws k) < 4
       param-node e =
-          let b : lead_of (node_at t k).kind ≡ parameter_item = eqb-true (lead_of (node_at t k).kind) parameter_item (sym shaped.parameter ∙ eq-eqb (form (word ws k)) parameter_form e) in
-          omega (arith, (parts (omega arith)).is_item, good.range.parameter b, (item-fits (node_at t k).kind (node_at t k).item (node_at t k).constant good.range).1)
+          let b : lead_of (number_of (node_at t k).kind) ≡ parameter_item = eqb-true (lead_of (number_of (node_at t k).kind)) parameter_item
+          (sym shaped.parameter ∙ eq-eqb (form (word ws k)) parameter_form e) in
+          omega (arith, (parts (omega arith)).is_item, good.range.parameter b, (item-fits (number_of (node_at t k).kind) (node_at t k).item (node_at t k).constant good.range).1)
 
   -- ---- one more node
   module _ {ws : List ℕ} {r i : ℕ} (s : Going t ws r i) (h : i < t.n) where
@@ -229,21 +232,22 @@ module _ (t : Table) (g : Good t) where
         }
 
     -- a node without children, and an operator: no sort to break
-    whole : broken_by (node_at t i).kind (flags t i) ≡ false → Looked (broken t) r (i + 1)
+    whole : broken_by (number_of (node_at t i).kind) (flags t i) ≡ false → Looked (broken t) r (i + 1)
     whole e = look-clean (broken t) r i s.looked (sym (broken-word i h) ∙ e)
 
     pub childless : (node_at t i).kids ≡ 0 → Childless (node_at t i)
     childless e = record { fits = fits i h; none = e; count = count_of t i; kind = sym (good i h).kids ∙ e }
 
     pub childless-goes : {w : ℕ} → (node_at t i).kids ≡ 0 → ((side branch : Bool) → IsWord (node_at t i) (body_of t i) side branch w) → Going t (set ws i w) r (i + 1)
-    childless-goes e here = grows (here _ _) (whole (rw e (no_fields (node_at t i).kind (count_of t i) (good i h).kind (sym (good i h).kids ∙ e))))
+    childless-goes e here = grows (here _ _) (whole (rw e (no_fields (number_of (node_at t i).kind) (count_of t i) (kind-known (node_at t i).kind) (sym (good i h).kids ∙ e))))
 
-    pub operator : (node_at t i).kind ≡ operator_kind → ((node_at t i).kind ≡ operator_kind) × ((node_at t i).kids ≡ 2) × ((node_at t i).item < 16)
+    pub operator : (number_of (node_at t i).kind) ≡ operator_kind → ((number_of (node_at t i).kind) ≡ operator_kind) × ((node_at t i).kids ≡ 2) × ((node_at t i).item < 16)
     operator e = (e, (good i h).kids ∙ ap (λ (k : ℕ). kids_of k (count_of t i)) e, rw e at (fits i h).item)
 
-    pub operator-goes : {a b side : Bool} {w : ℕ} → (node_at t i).kind ≡ operator_kind → a ≡ is_field_at ws (node_at t i).a → b ≡ is_field_at ws (node_at t i).b → side ≡ a || b
+    pub operator-goes : {a b side : Bool} {w : ℕ} → (number_of (node_at t i).kind) ≡ operator_kind → a ≡ is_field_at ws (get_or (node_at t i).children 0 0)
+        → b ≡ is_field_at ws (get_or (node_at t i).children 1 0) → side ≡ a || b
         → ((branch : Bool) → IsWord (node_at t i) (body_of t i) side branch w) → Going t (set ws i w) r (i + 1)
-    operator-goes {a} {b} {side} {w} e p q o here = grows (subst (λ (z : Bool). IsWord (node_at t i) (body_of t i) z (flags t i).b w) sides (here _)) (whole (rw e))
+    operator-goes {a} {b} {side} {w} e p q o here = grows (subst (λ (z : Bool). IsWord (node_at t i) (body_of t i) z (get_or (flags t i) 1 false) w) sides (here _)) (whole (rw e))
       where
         two : (node_at t i).kids ≡ 2
         two = (operator e).1
@@ -251,16 +255,17 @@ module _ (t : Table) (g : Good t) where
         is : (j c : ℕ) → j < 2 → (j < (node_at t i).kids → c < i) → is_field_at ws c ≡ flag_in (first t i) (node_at t i).kids j c
         is j c l f = sym (ap (λ (z : Bool). cond z (is_field_at ws c) false) (lt-ltb j (node_at t i).kids (omega (arith, two)))) ∙ part_same j c f
 
-        sides : side ≡ (flags t i).a || (flags t i).b
-        sides = let c = (good i h).children in cc (is 0 (node_at t i).a (omega arith) (c 0), is 1 (node_at t i).b (omega arith) (c 1))
+        sides : side ≡ get_or (flags t i) 0 false || get_or (flags t i) 1 false
+        sides = let c = (good i h).children in cc (is 0 (get_or (node_at t i).children 0 0) (omega arith) (c 0), is 1 (get_or (node_at t i).children 1 0) (omega arith) (c 1))
 
-    pub goes : {f : Flags} {either bad : Bool} {w q : ℕ} → f ≡ flags_in ws (node_at t i) → either ≡ f.a || f.b
-        → IsWord (node_at t i) (body_of t i) either f.b w → bad ≡ broken_by (node_at t i).kind f → q ≡ first_bad r i bad
+    pub goes : {f : List Bool} {either bad : Bool} {w q : ℕ} → f ≡ flags_in ws (node_at t i) → either ≡ get_or f 0 false || get_or f 1 false
+        → IsWord (node_at t i) (body_of t i) either (get_or f 1 false) w → bad ≡ broken_by (number_of (node_at t i).kind) f → q ≡ first_bad r i bad
         → Going t (set ws i w) q (i + 1)
     goes {f} {either} {bad} {w} {q} e p here b c =
         grows
-        (subst (λ (y : Flags). IsWord (node_at t i) (body_of t i) (y.a || y.b) y.b w) same (subst (λ (y : Bool). IsWord (node_at t i) (body_of t i) y f.b w) p here))
-        (rw c (look (broken t) r i bad s.looked (omega (arith, g.n)) (b ∙ ap (broken_by (node_at t i).kind) same ∙ broken-word i h)))
+        (subst (λ (y : List Bool). IsWord (node_at t i) (body_of t i) (get_or y 0 false || get_or y 1 false) (get_or y 1 false) w) same
+        (subst (λ (y : Bool). IsWord (node_at t i) (body_of t i) y (get_or f 1 false) w) p here))
+        (rw c (look (broken t) r i bad s.looked (omega (arith, g.n)) (b ∙ ap (broken_by (number_of (node_at t i).kind)) same ∙ broken-word i h)))
       where
         same : f ≡ flags t i
         same = e ∙ flags-same
@@ -321,7 +326,7 @@ module _ (t : Table) (g : Good t) where
           ap is_field (same-trees b l)
           ∙ and_second (eqb b t.main || among b (bodies (table_of t).definitions)) _ (parted b l).1 (rw m (or-true (eqb b t.main)))
 
-      body-of : (k : ℕ) (h : k < t.n) → lead_of (node_at t k).kind ≡ definition_item → 0 < form (word ws k) → is_field (tree_at ws (body (word ws k))) ≡ false
+      body-of : (k : ℕ) (h : k < t.n) → lead_of (number_of (node_at t k).kind) ≡ definition_item → 0 < form (word ws k) → is_field (tree_at ws (body (word ws k))) ≡ false
       body-of k h e l = rw (parts k h ws (s.worded k h) l).is_body (body-number (node_at t k).item ((g.nodes k h).definition e).0)
 
       known : (k : ℕ) → Known ws k

@@ -10,11 +10,12 @@ use Rattle.words.specs.Trees.{tree_at}
 use Rattle.words.specs.Sound.{AllSorted}
 use Rattle.operands.specs.Formed.{AllFormed}
 use Rattle.load.specs.declared.Table.{Table}
+use Rattle.shapes.specs.Kinds.{number_of}
 use Rattle.nodes.specs.declared.Node.{Node}
 use Rattle.load.specs.Loads.{table_of, node_at}
 
 abbrev pub kind_of : Node → ℕ
-kind_of x = x.kind
+kind_of x = number_of x.kind
 
 abbrev pub item_of : Node → ℕ
 item_of x = x.item

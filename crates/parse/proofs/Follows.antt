@@ -14,6 +14,8 @@ use Rattle.decide.proofs.Picks.{not-both, both}
 use Rattle.notation.specs.Grammar.{Token, opening, closing, word}
 use Rattle.vocabulary.specs.Codes.{token_code}
 use Rattle.levels.specs.Levels.{refusal, word_moves, inner, move_of, reopened, moved, move, Formed, window, unheld, held_at, put_at, level_in, advanced, Based}
+use Rattle.lexemes.specs.declared.Kind.{Kind}
+use Rattle.lexemes.specs.declared.Kind.TheVariants.{Opening, Closing, Word}
 use Rattle.lexemes.specs.Lexeme.{depth_by}
 use Rattle.levels.proofs.Steps.{CodedToken}
 use Rattle.levels.proofs.Forms.{first-defines}
@@ -32,10 +34,10 @@ moved_word : (c k m : ℕ) (l : List ℕ) → k < 22 → moved c k m l ≡ cond 
 moved_word c k m l h = rw (ne_eqb k 22 (λ e. omega arith), ne_eqb k 23 (λ e. omega arith))
 
 -- a token's kind
-pub data OfKind : Token → ℕ → Type 0 where
-  an_opening : OfKind opening 1
-  a_closing : OfKind closing 2
-  a_word : {w : List ℕ} → OfKind (word w) 3
+pub data OfKind : Token → Kind → Type 0 where
+  an_opening : OfKind opening Opening
+  a_closing : OfKind closing Closing
+  a_word : {w : List ℕ} → OfKind (word w) Word
 
 -- deep levels open with a head
 deep-inner : (c : ℕ) (l : List ℕ) → Formed (c ∷ l) → 2 ≤ length l → inner c ≡ 2
@@ -81,19 +83,19 @@ module _ (base depth : ℕ) (arr : List ℕ) (len : length arr ≡ window) (base
     pub free : held_at base depth ≡ false → m ≡ 0
 
   -- behind a token of that kind and move
-  abbrev pub Behind : ℕ → ℕ → List ℕ → Type 0
+  abbrev pub Behind : Kind → ℕ → List ℕ → Type 0
   Behind kind m ls' = Held base (advanced base depth kind (level_in base depth arr) m arr) ls' (depth_by depth kind) × (length ls' ≡ suc (depth_by depth kind))
 
-  behind-opening : (m : ℕ) (ls' : List ℕ) → Moves opening m → move (c ∷ l) 22 ≡ some ls' → Behind 1 m ls'
+  behind-opening : (m : ℕ) (ls' : List ℕ) → Moves opening m → move (c ∷ l) 22 ≡ some ls' → Behind Opening m ls'
   behind-opening m ls' q e =
-      subst (Behind 1 m) (moved_on c 22 l ls' e)
+      subst (Behind Opening m) (moved_on c 22 l ls' e)
       (held-opening base depth c arr l len h (move_of c 22) m (inner c) (inner (level_in base depth arr)) q.held opens, omega (arith, size))
 
-  behind-closing : (m : ℕ) (ls' : List ℕ) → 0 < depth → move (c ∷ l) 23 ≡ some ls' → Behind 2 m ls'
-  behind-closing m ls' p e = subst (Behind 2 m) (moved_on c 23 l ls' e) (held-closing base depth c arr l len h p, omega (arith, size, p))
+  behind-closing : (m : ℕ) (ls' : List ℕ) → 0 < depth → move (c ∷ l) 23 ≡ some ls' → Behind Closing m ls'
+  behind-closing m ls' p e = subst (Behind Closing m) (moved_on c 23 l ls' e) (held-closing base depth c arr l len h p, omega (arith, size, p))
 
   -- a definition's head, where the level is held: the outermost level is a program again
-  defined : l ≡ 1 ∷ [] → (m : ℕ) → eqb m 18 ≡ true → Behind 3 m (11 ∷ reopened l)
+  defined : l ≡ 1 ∷ [] → (m : ℕ) → eqb m 18 ≡ true → Behind Word m (11 ∷ reopened l)
   defined e m q = rw (q, e, d) (again, refl)
     where
       d : depth ≡ 1
@@ -144,9 +146,9 @@ module _ (base depth : ℕ) (arr : List ℕ) (len : length arr ≡ window) (base
       go c [] f e = outermost c f e
       go c (d ∷ ls) f e = first-defines c d k ls f j e
 
-  behind-word : (w : List ℕ) (m : ℕ) (ls' : List ℕ) → token_code (word w) < 22 → Moves (word w) m → move (c ∷ l) (token_code (word w)) ≡ some ls' → Behind 3 m ls'
+  behind-word : (w : List ℕ) (m : ℕ) (ls' : List ℕ) → token_code (word w) < 22 → Moves (word w) m → move (c ∷ l) (token_code (word w)) ≡ some ls' → Behind Word m ls'
   behind-word w m ls' j q e =
-      subst (Behind 3 m) (sym (moved_word c k (move_of c k) l j) ∙ moved_on c k l ls' e) (go (held_at base depth) (eqb (move_of c k) 18) refl refl)
+      subst (Behind Word m) (sym (moved_word c k (move_of c k) l j) ∙ moved_on c k l ls' e) (go (held_at base depth) (eqb (move_of c k) 18) refl refl)
     where
       k : ℕ
       k = token_code (word w)
@@ -162,7 +164,7 @@ module _ (base depth : ℕ) (arr : List ℕ) (len : length arr ≡ window) (base
           by true x = let y = leb-true base 1 x in not-both (sym (held-is (omega (arith, d, y)) (omega (arith, d))) ∙ p)
           by false x = leb-false base 1 x
 
-      go : (a b : Bool) → held_at base depth ≡ a → eqb (move_of c k) 18 ≡ b → Behind 3 m (cond b (11 ∷ reopened l) (move_of c k ∷ l))
+      go : (a b : Bool) → held_at base depth ≡ a → eqb (move_of c k) 18 ≡ b → Behind Word m (cond b (11 ∷ reopened l) (move_of c k ∷ l))
       go true true p r = defined (on-nothing k j r) m (rw (same p) r)
       go true false p r = rw (same p, r) (held_word base depth c arr l len h (move_of c k) (move_of c k) (λ b w. refl), omega (arith, size))
       go false true p r =
@@ -174,7 +176,7 @@ module _ (base depth : ℕ) (arr : List ℕ) (len : length arr ≡ window) (base
           rw (q.free p) (held_word base depth c arr l len h (move_of c k) 0 (λ b w. not-both (sym (held-is b w) ∙ p)), omega (arith, size))
 
   -- any token
-  pub follows : (t : Token) (kind m : ℕ) (ls' : List ℕ) → OfKind t kind → CodedToken t → (kind ≡ 2 → 0 < depth) → Moves t m → move (c ∷ l) (token_code t) ≡ some ls' → Behind kind m ls'
+  pub follows : (t : Token) (kind : Kind) (m : ℕ) (ls' : List ℕ) → OfKind t kind → CodedToken t → (kind ≡ Closing → 0 < depth) → Moves t m → move (c ∷ l) (token_code t) ≡ some ls' → Behind kind m ls'
   follows t kind m ls' an_opening o p q e = behind-opening m ls' q e
   follows t kind m ls' a_closing o p q e = behind-closing m ls' (p refl) e
   follows (word w) kind m ls' a_word o p q e = behind-word w m ls' o.below q e

@@ -18,6 +18,8 @@ use Rattle.notation.proofs.Lexing.{lex}
 use Rattle.notation.proofs.Place.{reach, place, place-longest}
 use Rattle.vocabulary.specs.Codes.{token_code}
 use Rattle.levels.specs.Levels.{refusal, segment, stack_of, inner, move_of, moved, move, Formed, levels_at, level_front, window, held_at, put_at, level_in, advanced, Numbered, Based}
+use Rattle.lexemes.specs.declared.Kind.{Kind}
+use Rattle.lexemes.specs.declared.Kind.TheVariants.{Opening, Closing, Word}
 use Rattle.lexemes.specs.Lexeme.{depth_by}
 use Rattle.parse.specs.Passed.{levels, is_empty, Passed}
 use Rattle.levels.proofs.Steps.{each, ◌▹◌, inner-level}
@@ -103,10 +105,10 @@ refuses c l k e = go (eqb (move_of c k) refusal) (moved c k (move_of c k) l) e
     go true x e = refl
     go false x e = let z : ◌≡◌ {A = ℕ} 0 1 = cc in absurd (omega arith)
 
-closing-of : (t : Token) (kind : ℕ) → OfKind t kind → kind ≡ 2 → t ≡ closing
-closing-of t kind an_opening k = let z : ◌≡◌ {A = ℕ} 1 2 = k in absurd (omega (arith, z))
+closing-of : (t : Token) (kind : Kind) → OfKind t kind → kind ≡ Closing → t ≡ closing
+closing-of t kind an_opening k = absurd cc
 closing-of t kind a_closing k = refl
-closing-of t kind a_word k = let z : ◌≡◌ {A = ℕ} 3 2 = k in absurd (omega (arith, z))
+closing-of t kind a_word k = absurd cc
 
 refusing : (c : ℕ) (l : List ℕ) (k : ℕ) → eqb (move_of c k) refusal ≡ true → move (c ∷ l) k ≡ none
 unfolding move
@@ -173,24 +175,23 @@ module _ (s : List ℕ) (base : ℕ) (based : Based base) (at depth deepest : �
       }
 
   -- the array stays as long
-  advanced-long : (kind c m : ℕ) → length (advanced base depth kind c m arr) ≡ window
-  advanced-long kind c m = go (eqb kind 1) (eqb kind 2) (eqb m 18)
+  advanced-long : (kind : Kind) (c m : ℕ) → length (advanced base depth kind c m arr) ≡ window
+  advanced-long Opening c m = put-length base (suc depth) (inner c) (put_at base depth m arr) (put-length base depth m arr g.long)
+  advanced-long Closing c m = g.long
+  advanced-long Word c m = go (eqb m 18)
     where
-      go : (a b d : Bool) → length (cond a (put_at base (suc depth) (inner c) (put_at base depth m arr)) (cond b arr
-          (cond d (put_at base 0 0 (put_at base depth 11 arr)) (put_at base depth m arr)))) ≡ window
-      go true b d = put-length base (suc depth) (inner c) (put_at base depth m arr) (put-length base depth m arr g.long)
-      go false true d = g.long
-      go false false true = put-length base 0 0 (put_at base depth 11 arr) (put-length base depth 11 arr g.long)
-      go false false false = put-length base depth m arr g.long
+      go : (d : Bool) → length (cond d (put_at base 0 0 (put_at base depth 11 arr)) (put_at base depth m arr)) ≡ window
+      go true = put-length base 0 0 (put_at base depth 11 arr) (put-length base depth 11 arr g.long)
+      go false = put-length base depth m arr g.long
 
-  module _ (t : Token) (start end kind : ℕ) (n : Next s at t start end) (o : OfKind t kind) where
+  module _ (t : Token) (start end : ℕ) (kind : Kind) (n : Next s at t start end) (o : OfKind t kind) where
     deeper-least : depth_by depth kind ≤ suc depth
-    deeper-least = go (eqb kind 1) (eqb kind 2)
+    deeper-least = go kind
       where
-        go : (a b : Bool) → cond a (suc depth) (cond b (depth - 1) depth) ≤ suc depth
-        go true b = omega arith
-        go false true = omega arith
-        go false false = omega arith
+        go : (k : Kind) → depth_by depth k ≤ suc depth
+        go Opening = omega arith
+        go Closing = omega arith
+        go Word = omega arith
 
     -- a token that the machine refuses where it is, and the pass with it; or one behind its refusal
     stopped : (x : ℕ) (done : Bool) → start ≤ x → x ≤ end → ((v : Lives s base at depth arr) → (move (v.top ∷ v.below) (token_code t) ≡ none) × (x ≡ start + front (stack_of (v.top ∷ v.below)) t))
@@ -238,7 +239,7 @@ module _ (s : List ℕ) (base : ℕ) (based : Based base) (at depth deepest : �
         )
 
     -- a closing bracket too many
-    pub outer-turn : kind ≡ 2 → depth ≡ 0 → (done : Bool) → Passed s base true start deepest done
+    pub outer-turn : kind ≡ Closing → depth ≡ 0 → (done : Bool) → Passed s base true start deepest done
     outer-turn k d done = stopped start done (omega arith) (let y = n.filled in omega (arith, y)) nothing-open
       where
         nothing-open : (v : Lives s base at depth arr) → (move (v.top ∷ v.below) (token_code t) ≡ none) × (start ≡ start + front (stack_of (v.top ∷ v.below)) t)
@@ -248,7 +249,7 @@ module _ (s : List ℕ) (base : ℕ) (based : Based base) (at depth deepest : �
 
     -- the pass goes on: with the machine, or past it
     module _ (m : ℕ) (same : held_at base depth ≡ true → m ≡ move_of (level_in base depth arr) (token_code t)) (free : held_at base depth ≡ false → m ≡ 0) (taken : eqb m refusal ≡ false)
-        (above : kind ≡ 2 → 0 < depth) where
+        (above : kind ≡ Closing → 0 < depth) where
       live_on : Lives s base at depth arr → Lives s base end (depth_by depth kind) (advanced base depth kind (level_in base depth arr) m arr) ⊎ Past s base end (max deepest (depth_by depth kind))
       live_on v = go (move (c ∷ l) (token_code t)) refl
         where

@@ -1,21 +1,23 @@
 -- The next token of a text, as the lexemes and the vocabulary give it. Assumes nothing.
-use mathlib.Core.Path.{◌≡◌, refl, sym, ap, subst, ◌∙◌}
+use mathlib.Core.Path.{◌≡◌, refl, ap, ◌∙◌}
 use mathlib.Core.List.{List, [], ◌∷◌, ◌++◌}
 use mathlib.Core.Option.{none, some}
-use Prim.Native.Nat.{ℕ, zero, suc, ◌+◌, ◌-◌, ◌≤◌, ◌<◌}
+use Prim.Native.Nat.{ℕ, suc, ◌+◌, ◌-◌, ◌≤◌, ◌<◌}
 use native.Mathlib.Omega.{arith}
 use lib.ListN.{length, get_or, drop}
-use lib.Seq.{drop-length}
-use Rattle.notation.specs.Words.{Word, no_form, between, role, role_of}
+use Rattle.notation.specs.Words.{no_form, between, role, role_of}
 use Rattle.notation.specs.Grammar.{Token, opening, closing, word}
 use Rattle.notation.specs.Text.{ByteKind, left, right, byte_kind, Plain, Apart}
 use Rattle.notation.proofs.Machine.{Symbol, step}
 use Rattle.notation.proofs.Lexing.{lex}
 use Rattle.notation.proofs.Place.{after_word, reach}
 use Rattle.notation.proofs.Rules.{viable-within, taken-from, refused-from}
+use Rattle.std.specs.Prelude.{Some, None}
+use Rattle.lexemes.specs.declared.Kind.{Kind}
+use Rattle.lexemes.specs.declared.Kind.TheVariants.{Opening, Closing, Word}
 use Rattle.lexemes.specs.declared.Lexeme.{Lexeme}
 use Rattle.lexemes.specs.Lexeme.{token_by, token_of, next_lexeme}
-use Rattle.lexemes.proofs.Laws.{next-within, next-end, next-token, next_word, next-opening, next-closing, next-reach, Behind, WordAt, BracketAt}
+use Rattle.lexemes.proofs.Laws.{next-within, next-end, next-token, next_word, next-opening, next-closing, next-reach, next-reach_end, Behind}
 use Rattle.vocabulary.specs.Codes.{code_of, head_by_code}
 use Rattle.notation.proofs.Between.{length-between}
 use Rattle.vocabulary.proofs.Laws.{code-limit, code-atom, code-binder, code-function, code-head}
@@ -31,11 +33,11 @@ roles-right k h =
     refl ▹ refl ▹ refl ▹ refl ▹ refl ▹ refl ▹ refl ▹ refl ▹ refl ▹ refl ▹ refl ▹ refl ▹ refl ▹ refl ▹ refl ▹ refl ▹ refl ▹ refl ▹ refl ▹ refl ▹ refl ▹ refl ▹ tt
     ) k h
 
-coded-role : (w : Word) → role w ≡ get_or roles (code_of w) no_form
+coded-role : (w : List ℕ) → role w ≡ get_or roles (code_of w) no_form
 unfolding role
 coded-role w = ap role_of (code-head w) ∙ roles-right (code_of w) (omega (arith, code-limit w))
 
-coded-word : (w : Word) → Coded w (code_of w)
+coded-word : (w : List ℕ) → Coded w (code_of w)
 coded-word w = record { below = omega (arith, code-limit w); atoms = code-atom w; binders = code-binder w; functions = code-function w; rolled = coded-role w }
 
 pub coded : (t : Token) → CodedToken t
@@ -55,7 +57,7 @@ on-right : On right closing
 on-right st b s e = (λ st' q. rw (e, q) (omega arith), λ q. rw (e, q))
 
 -- ---- a filled word
-after_filled : (st : List Symbol) (w : Word) → (w ≡ [] → ⊥) → after_word st w ≡ step st (word w)
+after_filled : (st : List Symbol) (w : List ℕ) → (w ≡ [] → ⊥) → after_word st w ≡ step st (word w)
 after_filled st [] f = absurd (f refl)
 after_filled st (b ∷ w) f = refl
 
@@ -74,79 +76,48 @@ by-bracket s start end o t f z q d e =
       λ st. rw (z st) (omega arith),
     )
 
-by_word : (s : List ℕ) (start end : ℕ) (w : Word) → Plain w → Apart (drop end s) → drop start s ≡ w ++ drop end s → (w ≡ [] → ⊥) → length w ≡ end - start → Taken s start end (word w)
+by_word : (s : List ℕ) (start end : ℕ) (w : List ℕ) → Plain w → Apart (drop end s) → drop start s ≡ w ++ drop end s → (w ≡ [] → ⊥) → length w ≡ end - start → Taken s start end (word w)
 by_word s start end w p a d f l = (
   (λ st st' q. rw (d, ← l) (taken-from w [] st st' (drop end s) p a (after_filled st w f ∙ q))),
   (λ st q. rw d (refused-from w [] st (drop end s) p a (after_filled st w f ∙ q))),
   λ st. rw (← l) (viable-within st [] w),
 )
 
--- what the laws say of a lexeme
-record Facts (s : List ℕ) (at : ℕ) (r : Lexeme) : Type 0 where
-  placed : Behind s at r
-  token : (r.kind ≡ 0 → ⊥) → lex (drop at s) ≡ token_of s r ∷ lex (drop r.end s)
-  ending : r.kind ≡ 0 → lex (drop at s) ≡ []
-  opens : r.kind ≡ 1 → BracketAt s r left
-  closes : r.kind ≡ 2 → BracketAt s r right
-  spells : r.kind ≡ 3 → WordAt s r
-  reaches : (st : List Symbol) → reach st [] (drop at s) ≡ r.start - at + reach st [] (drop r.start s)
-
-facts : (s : List ℕ) (at : ℕ) → at ≤ length s → Facts s at (next_lexeme s at)
-facts s at h = record {
-  placed = next-within s at h;
-  token = next-token s at h;
-  ending = next-end s at h;
-  opens = next-opening s at h;
-  closes = next-closing s at h;
-  spells = next_word s at h;
-  reaches = next-reach s at h;
-}
-
-module _ (s : List ℕ) (at : ℕ) (r : Lexeme) (f : Facts s at r) (z : r.kind ≡ 0 → ⊥) where
-  abbrev Found : ℕ → Type 0
+-- the lexeme that the code reads
+module _ (s : List ℕ) (at : ℕ) (h : at ≤ length s) (r : Lexeme) (e : next_lexeme s at ≡ Some r) where
+  abbrev Found : Kind → Type 0
   Found k = Taken s r.start r.end (token_by k (between r.start r.end s)) × OfKind (token_by k (between r.start r.end s)) k
 
-  by_kind : (k : ℕ) → r.kind ≡ k → Found k
-  by_kind zero e = absurd (z e)
-  by_kind (suc zero) e = let b = f.opens e in (by-bracket s r.start r.end left opening on-left (λ st. refl) b.sorted b.first b.one, an_opening)
-  by_kind (suc (suc zero)) e = let b = f.closes e in (by-bracket s r.start r.end right closing on-right (λ st. refl) b.sorted b.first b.one, a_closing)
-  by_kind (suc (suc (suc zero))) e =
-      let w = f.spells e in
-      (by_word s r.start r.end (between r.start r.end s) w.plain w.apart w.whole w.filled (length-between r.start r.end s f.placed.inside), a_word)
-  by_kind (suc (suc (suc (suc k)))) e = let x = f.placed.kinds in absurd (omega (arith, x, e))
+  pub read-within : Behind s at r
+  read-within = next-within s at h r e
 
-  next-by : Next s at (token_of s r) r.start r.end
-  next-by =
+  by_kind : (k : Kind) → r.kind ≡ k → Found k
+  by_kind Opening q = let b = next-opening s at h r e q in (by-bracket s r.start r.end left opening on-left (λ st. refl) b.sorted b.first b.one, an_opening)
+  by_kind Closing q = let b = next-closing s at h r e q in (by-bracket s r.start r.end right closing on-right (λ st. refl) b.sorted b.first b.one, a_closing)
+  by_kind Word q =
+      let w = next_word s at h r e q in
+      (by_word s r.start r.end (between r.start r.end s) w.plain w.apart w.whole w.filled (length-between r.start r.end s read-within.inside), a_word)
+
+  pub read-kind : OfKind (token_of s r) r.kind
+  read-kind = (by_kind r.kind refl).1
+
+  pub read : Next s at (token_of s r) r.start r.end
+  read =
       let t = (by_kind r.kind refl).0 in
-      let b = f.placed.behind in
-      let o = f.placed.ordered in
+      let p = read-within in
+      let b = p.behind in
+      let o = p.filled in
       record {
         behind = b;
-        filled = f.placed.some z;
-        within = f.placed.inside;
+        filled = o;
+        within = p.inside;
         coded = coded (token_of s r);
-        tokens = f.token z;
-        taken = λ st st' q. f.reaches st ∙ ap (λ (k : ℕ). r.start - at + k) (t.0 st st' q) ∙ omega (arith, b, o);
-        refused = λ st q. f.reaches st ∙ ap (λ (k : ℕ). r.start - at + k) (t.1 st q);
+        tokens = next-token s at h r e;
+        taken = λ st st' q. next-reach s at h r e st ∙ ap (λ (k : ℕ). r.start - at + k) (t.0 st st' q) ∙ omega (arith, b, o);
+        refused = λ st q. next-reach s at h r e st ∙ ap (λ (k : ℕ). r.start - at + k) (t.1 st q);
         short = t.2;
       }
 
--- the lexeme that the code reads
-module _ (s : List ℕ) (at : ℕ) (r : Lexeme) (h : at ≤ length s) (e : r ≡ next_lexeme s at) where
-  known : Facts s at r
-  known = subst (Facts s at) (sym e) (facts s at h)
-
-  pub read : (r.kind ≡ 0 → ⊥) → Next s at (token_of s r) r.start r.end
-  read z = next-by s at r known z
-
-  pub read-kind : (r.kind ≡ 0 → ⊥) → OfKind (token_of s r) r.kind
-  read-kind z = (by_kind s at r known z r.kind refl).1
-
-  pub read-within : Behind s at r
-  read-within = known.placed
-
-  -- the end of the text: all that is left are blanks
-  pub read-end : r.kind ≡ 0 → (lex (drop at s) ≡ []) × ((st : List Symbol) → reach st [] (drop at s) ≡ length s - at) × (r.start ≡ length s)
-  read-end z =
-      let n = known.placed.none z in
-      (known.ending z, (λ st. known.reaches st ∙ rw (n, drop-length s) (omega arith)), n)
+-- the end of the text: all that is left are blanks
+pub read-end : (s : List ℕ) (at : ℕ) → at ≤ length s → next_lexeme s at ≡ None → (lex (drop at s) ≡ []) × ((st : List Symbol) → reach st [] (drop at s) ≡ length s - at)
+read-end s at h e = (next-end s at h e, λ st. next-reach_end s at h e st ∙ omega arith)

@@ -17,7 +17,8 @@ use Rattle.vocabulary.specs.Codes.{token_code}
 use Rattle.levels.specs.Levels.{move, Formed, levels_by, levels_at, window}
 use Rattle.levels.proofs.Forms.{formed-move}
 use Rattle.parse.proofs.Reading.{coded}
-use Rattle.parse.specs.Passed.{levels, is_empty, Passed, ends}
+use Rattle.std.specs.Prelude.{Result, Ok, Err}
+use Rattle.parse.specs.Passed.{levels, is_empty, Passed, PassedBy, sooner, ends}
 
 -- the passes for the levels below base + window have come to this
 pub record Covered (s : List ℕ) (base : ℕ) (refused : Bool) (at deepest : ℕ) (done : Bool) : Type 0 where
@@ -114,3 +115,44 @@ levels-at (t ∷ ts) ls f = go (move ls (token_code t)) refl (levels-at ts)
 pub some_level : (s : List ℕ) → 0 < levels s
 unfolding Formed
 some_level s = levels-at (lex s) (0 ∷ []) refl
+
+-- by what the passes together give
+abbrev pub CoveredBy : List ℕ → ℕ → Result Bool ℕ → ℕ → Type 0
+CoveredBy s base (Ok done) deepest = Covered s base false (length s) deepest done
+CoveredBy s base (Err at) deepest = Covered s base true at deepest false
+
+-- once a token is refused it tells nothing whether the first pass ended
+undone : (s : List ℕ) (base at deepest : ℕ) (done : Bool) → Covered s base true at deepest done → Covered s base true at deepest false
+undone s base at deepest done c = record {
+  least = c.least;
+  within = c.within;
+  stops = c.stops;
+  exact = c.exact;
+  deep = c.deep;
+  whole = λ st e. none-some (sym (c.stops refl) ∙ e);
+  reached = c.reached;
+}
+
+pub first-end : (s : List ℕ) (end : Result Bool ℕ) (deepest : ℕ) → PassedBy s 0 end deepest → CoveredBy s 0 end deepest
+first-end s (Ok done) deepest p = first-window s false (length s) deepest done (some_level s) p
+first-end s (Err at) deepest p = first-window s true at deepest false (some_level s) p
+
+pub next-end : (s : List ℕ) (base : ℕ) (end : Result Bool ℕ) (deepest : ℕ) (end' : Result Bool ℕ) (deepest' : ℕ)
+    → CoveredBy s base end deepest → base + window ≤ deepest → PassedBy s (base + window) end' deepest' → CoveredBy s (base + window) (sooner end end') deepest
+next-end s base (Ok done) deepest (Ok done') deepest' c h p =
+    let z : min (length s) (length s) ≡ length s = omega arith in
+    rw z at (next-window s base false (length s) deepest done false (length s) deepest' done' c h p)
+next-end s base (Ok done) deepest (Err at') deepest' c h p =
+    let w = p.within in
+    let z : min (length s) at' ≡ at' = omega arith in
+    rw z at (undone s (base + window) _ deepest done (next-window s base false (length s) deepest done true at' deepest' false c h p))
+next-end s base (Err at) deepest (Ok done') deepest' c h p =
+    let w = c.within in
+    let z : min at (length s) ≡ at = omega arith in
+    rw z at (next-window s base true at deepest false false (length s) deepest' done' c h p)
+next-end s base (Err at) deepest (Err at') deepest' c h p = next-window s base true at deepest false true at' deepest' false c h p
+
+-- all levels are covered
+module _ (s : List ℕ) (base deepest : ℕ) (h : deepest < base + window) where
+  pub all-read : (done : Bool) → CoveredBy s base (Ok done) deepest → (ends (run outset (lex s)) ≡ done) × (place s ≡ length s)
+  all-read done c = (sym (all-taken s base false (length s) deepest done c h refl), sym (all-place s base false (length s) deepest done c h))

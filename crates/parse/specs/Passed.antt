@@ -1,5 +1,5 @@
 -- What one pass over a text finds, and what all of them come to. Definitions only: nothing is assumed.
-use Rattle.std.specs.Prelude.{◌≡◌, Bool, true, false, List, [], ◌∷◌, ℕ, suc, ◌+◌, ◌≤◌, ◌<◌, length}
+use Rattle.std.specs.Prelude.{◌≡◌, Bool, true, false, Result, Ok, Err, List, [], ◌∷◌, ℕ, suc, ◌+◌, ◌≤◌, ◌<◌, min, length}
 use Rattle.std.proofs.Math.Option.{Option, none, some}
 use Rattle.notation.proofs.Machine.{Symbol, run, start as outset}
 use Rattle.notation.proofs.Lexing.{lex}
@@ -23,6 +23,18 @@ pub record Passed (s : List ℕ) (base : ℕ) (refused : Bool) (at deepest : ℕ
   pub deep : levels s ≤ suc deepest
   -- a text that is a beginning is shared whole; the first pass sees whether it ends a program
   pub whole : (st : List Symbol) → run outset (lex s) ≡ some st → (place s ≡ length s) × (base ≡ 0 → done ≡ is_empty st)
+
+-- by what a pass gives: whether the text ended where a program may, or the place of the token that it refused
+abbrev pub PassedBy : List ℕ → ℕ → Result Bool ℕ → ℕ → Type 0
+PassedBy s base (Ok done) deepest = Passed s base false (length s) deepest done
+PassedBy s base (Err at) deepest = Passed s base true at deepest false
+
+-- of two passes the first's end counts, or the lesser place where a token was refused
+abbrev pub sooner : Result Bool ℕ → Result Bool ℕ → Result Bool ℕ
+sooner (Ok done) (Ok done') = Ok done
+sooner (Ok done) (Err at) = Err at
+sooner (Err at) (Ok done) = Err at
+sooner (Err at) (Err at') = Err (min at at')
 
 -- whether the machine ends with nothing to come
 abbrev pub ends : Option (List Symbol) → Bool

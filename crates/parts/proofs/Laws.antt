@@ -1,17 +1,30 @@
 -- What a word's code says of the node that it gives. Assumes nothing.
 use mathlib.Core.Path.{◌≡◌, refl, sym, ap, ◌∙◌}
-use mathlib.Core.Bool.{Bool, true, false}
-use mathlib.Core.List.{List}
+use mathlib.Core.Bool.{Bool, true, false, cond, ◌||◌}
+use Rattle.std.specs.Prelude.{Some, None, ◌⊎◌}
+use Rattle.std.proofs.Common.{inl, inr}
+use Rattle.std.proofs.lemmas.Option.{same_Some}
+use mathlib.Core.List.{List, [], ◌∷◌}
 use Prim.Native.Nat.{ℕ, zero, suc, ◌+◌, ◌-◌, ◌≤◌, ◌<◌}
 use native.Mathlib.Omega.{arith}
 use lib.Dec.{eqb, ltb}
-use lib.ListN.{get_or-eq_default}
-use borrow.Author.Tests.{eqb-true, eqb-false, lt-ltb, le-ltb}
-use Rattle.notation.specs.Words.{Word, index_of, operators, operator, operation, nothing, head_of}
+use lib.ListN.{length, get_or-eq_default}
+use borrow.Author.Tests.{eqb-true, eqb-false, ne_eqb, lt-ltb, le-ltb}
+use Rattle.notation.specs.Words.{Word, same_word, one_of, index_of, operators, operator, is_number, operation, nothing, head_of}
 use Rattle.notation.specs.Grammar.{Items}
 use Rattle.translation.specs.Numbering.{Given, of_kind, form_part}
+use Rattle.token_scans.specs.Sought.{named}
 use Rattle.vocabulary.specs.Codes.{code_of, form_heads, head_by_code}
-use Rattle.vocabulary.proofs.Laws.{code-operator, code-head, code-index}
+use Rattle.vocabulary.proofs.Laws.{code-operator, code-number, code-head, code-index}
+
+past-all : (w : Word) (l : List Word) → one_of w l ≡ false → index_of w l ≡ length l
+unfolding index_of
+past-all w [] e = refl
+past-all w (x ∷ l) e = go (same_word w x) e (past-all w l)
+  where
+    go : (c : Bool) → (c || one_of w l) ≡ false → (one_of w l ≡ false → index_of w l ≡ length l) → cond c 0 (suc (index_of w l)) ≡ suc (length l)
+    go true e ih = cc
+    go false e ih = ap suc (ih e)
 
 -- a word with the code k
 module _ (w : Word) (k : ℕ) (e : k ≡ code_of w) where
@@ -27,6 +40,29 @@ module _ (w : Word) (k : ℕ) (e : k ≡ code_of w) where
   pub head-operation : k < 9 → head_of w ≡ operation
   unfolding head_by_code
   head-operation h = head-by k refl ∙ rw (lt-ltb k 9 h)
+
+-- where a word stands among others that have it, and how many they are where they don't
+pub index-found : (w : Word) (ws : List Word) (n : ℕ) → Some n ≡ named w ws → n ≡ index_of w ws
+index-found w ws n e = go (one_of w ws) e
+  where
+    go : (b : Bool) → Some n ≡ cond b (Some (index_of w ws)) None → n ≡ index_of w ws
+    go true e = same_Some _ _ e
+    go false e = cc
+
+pub index-past : (w : Word) (ws : List Word) → None ≡ named w ws → length ws ≡ index_of w ws
+index-past w ws e = sym (past-all w ws (go (one_of w ws) e))
+  where
+    go : (b : Bool) → None ≡ cond b (Some (index_of w ws)) None → b ≡ false
+    go true e = cc
+    go false e = refl
+
+-- a number's code
+pub number-by : (w : Word) (k : ℕ) → k ≡ code_of w → (k ≡ 18) ⊎ (k ≡ 20) → true ≡ is_number w
+number-by w k e (inl h) = rw (code-number w, ← e, h)
+number-by w k e (inr h) = rw (code-number w, ← e, h)
+
+pub no-number : (w : Word) (k : ℕ) → k ≡ code_of w → ((k ≡ 18) ⊎ (k ≡ 20) → ⊥) → false ≡ is_number w
+no-number w k e h = rw (code-number w, ← e, ne_eqb k 18 (λ q. h (inl q)), ne_eqb k 20 (λ q. h (inr q)))
 
 -- a number that is none of the i from n on
 abbrev pub Skips : ℕ → ℕ → ℕ → Type 0

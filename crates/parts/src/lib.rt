@@ -1,145 +1,101 @@
-// The parts of a program's table, each appended to a buffer: the node of a word that stands alone, and the node of a form.
+// The parts of a program's table, each appended to it: the node of a word that stands alone, and the node of a form.
 #![tactic(auto)]
 
-ghost use Rattle.std.specs.Prelude.{◌≡◌, suc, ◌+◌, ◌-◌, ◌≤◌, length, take};
-ghost use Rattle.notation.specs.Words.{between, index_of, is_number};
+ghost use Rattle.std.specs.Prelude.{◌≡◌, suc, ◌++◌, ◌+◌, ◌≤◌, length};
+ghost use Rattle.notation.specs.Words.{index_of, is_number};
 ghost use Rattle.notation.proofs.Lexing.{lex};
 ghost use Rattle.translation.specs.Numbering.{byte, fold_part};
-ghost use Rattle.token_scans.specs.Scan.{definitions_in, slots_in, reps_in};
+ghost use Rattle.token_scans.specs.Scan.{definitions_in, slots_in};
 ghost use Rattle.tabling.specs.Fields.{flat_bytes};
-ghost use Rattle.table_writer.specs.Grown.{Room, Held, Grown};
-ghost use Rattle.parts.specs.Bytes.{Within, word_bytes, form_bytes};
+ghost use Rattle.parts.specs.Bytes.{word_bytes, form_bytes};
 
-// Where a form stands: `top`, where the form at depth 0 begins that it is in; `start`, its own bracket; its head, a..b, and the word behind that, c..d.
-#[derive(Drop)]
-pub struct Form {
-    pub top: usize,
-    pub start: usize,
-    pub a: usize,
-    pub b: usize,
-    pub c: usize,
-    pub d: usize,
-}
+use forms::Form;
+use rep_around::Meant;
+use shapes::Kind;
+use table_writer::Table;
+use token_scans::Mode;
+use vocabulary::{DEF, FOLD, IF, INF, MUX, NAME, NBR, NBR_LAG, NBR_RANGE, NUMBER, REP, SENSE};
+
+// Below, `earlier` is the text before the top-level form that a word or a form stands in.
 
 // A number as a byte.
 pub fn byte_of(n: usize) -> u8
     ensures { result ≡ byte n }
 {
-    if n < 255 {
-        return n as u8;
+    n.min(255) as u8
+}
+
+fn is_number(w: &[u8]) -> bool
+    ensures { result ≡ is_number w.now }
+{
+    matches!(vocabulary::code(w), INF | NUMBER)
+}
+
+// A word behind `form`, which are the bytes of its top-level form before it.
+pub fn put_word(table: &mut Table, earlier: &[u8], form: &[u8], w: &[u8])
+    requires { length table.old + 8 ≤ 2560 }
+    ensures { table.new ≡ table.old ++ word_bytes earlier.now form.now w.now }
+{
+    if is_number(w) {
+        table.constant(vocabulary::bits(w));
+        return;
     }
-    255
-}
-
-fn is_number(s: &[u8], a: usize, b: usize) -> bool
-    requires { (a ≤ b) × (b ≤ length s.now) }
-    ensures { result ≡ is_number (between a b s.now) }
-{
-    match vocabulary::code(s, a, b) {
-        18 => true,
-        20 => true,
-        _ => false,
+    match rep_around::meaning_of(earlier, form, w) {
+        Meant::Variable(n) => table.leaf(Kind::Variable, byte_of(n)),
+        Meant::Parameter(n) => table.leaf(Kind::Parameter, byte_of(n)),
     }
 }
 
-// The word a..b, in the form that begins at `top`.
-pub fn put_word(
-    s: &[u8],
-    top: usize,
-    a: usize,
-    b: usize,
-    out: &mut [u8; table_writer::ROOM],
-    len: usize,
-) -> usize
-    requires { (top ≤ a) × (a ≤ b) × (b ≤ length s.now) × Room out.old len 8 }
-    ensures { Grown out.old len out.new result (word_bytes s.now top a b) }
+// The slot that a form takes, from 1, by the text before it.
+fn slot(before: &[u8]) -> u8
+    ensures { result ≡ byte (suc (slots_in (lex before.now))) }
 {
-    if is_number(s, a, b) {
-        return table_writer::constant(out, len, vocabulary::bits(s, a, b));
+    byte_of(token_scans::slots_in(before) + 1)
+}
+
+// The number of a definition, or how many there are.
+fn definition(earlier: &[u8], w: &[u8]) -> u8
+    ensures { result ≡ byte (index_of w.now (definitions_in (lex earlier.now))) }
+{
+    match token_scans::name_in(earlier, Mode::DefinitionName, w) {
+        Some(n) => byte_of(n),
+        None => byte_of(token_scans::names_in(earlier, Mode::DefinitionName)),
     }
-    let m = rep_around::meaning_of(s, top, a, b);
-    let n = byte_of(m.number);
-    if m.bound {
-        return table_writer::leaf(out, len, 2, n);
-    }
-    table_writer::leaf(out, len, 1, n)
-}
-
-// The slot that a form at `start` takes, from 1; its variable, from 0; the number of a definition before `top`.
-fn slot(s: &[u8], start: usize) -> u8
-    requires { start ≤ length s.now }
-    ensures { result ≡ byte (suc (slots_in (lex (take start s.now)))) }
-{
-    byte_of(token_scans::slots_in(s, 0, start) + 1)
-}
-
-fn variable(s: &[u8], start: usize) -> u8
-    requires { start ≤ length s.now }
-    ensures { result ≡ byte (reps_in (lex (take start s.now))) }
-{
-    byte_of(token_scans::reps_in(s, 0, start))
-}
-
-fn definition(s: &[u8], top: usize, a: usize, b: usize) -> u8
-    requires { (top ≤ length s.now) × (a ≤ b) × (b ≤ length s.now) }
-    ensures { result ≡ byte (index_of (between a b s.now) (definitions_in (lex (take top s.now)))) }
-{
-    let f = token_scans::definition_of(s, top, a, b);
-    byte_of(f.index)
 }
 
 // A fold by the word behind its head: an operator, or a definition.
-fn put_fold(
-    s: &[u8],
-    f: Form,
-    out: &mut [u8; table_writer::ROOM],
-    len: usize,
-    stack: &[u8; 257],
-    from: usize,
-    to: usize,
-) -> usize
-    requires { Within s.now f × Held stack.now from to × Room out.old len (5 + (to - from)) }
-    ensures { Grown out.old len out.new result
-        (flat_bytes (fold_part (definitions_in (lex (take f.top s.now))) (between f.c f.d s.now) (between from to stack.now))) }
+fn put_fold(table: &mut Table, earlier: &[u8], w: &[u8], operands: &[u8])
+    requires { length table.old + (5 + length operands.now) ≤ 2560 }
+    ensures { table.new ≡ table.old ++ flat_bytes (fold_part (definitions_in (lex earlier.now)) w.now operands.now) }
 {
-    let j = vocabulary::code(s, f.c, f.d);
-    if j < 9 {
-        return table_writer::node_with(out, len, 10, j, stack, from, to);
+    let code = vocabulary::code(w);
+    if code < DEF {
+        table.node_with(Kind::Fold, code, operands);
+    } else {
+        table.node_with(Kind::FoldBy, definition(earlier, w), operands);
     }
-    let n = definition(s, f.top, f.c, f.d);
-    table_writer::node_with(out, len, 11, n, stack, from, to)
 }
 
-// A form whose operands are the numbers from..to of the stack.
-pub fn put_form(
-    s: &[u8],
-    f: Form,
-    out: &mut [u8; table_writer::ROOM],
-    len: usize,
-    stack: &[u8; 257],
-    from: usize,
-    to: usize,
-) -> usize
-    requires { Within s.now f × Held stack.now from to × Room out.old len (5 + (to - from)) }
-    ensures { Grown out.old len out.new result (form_bytes s.now f (between from to stack.now)) }
+// A form with its operands; `before` is the text before its bracket.
+pub fn put_form(table: &mut Table, earlier: &[u8], before: &[u8], form: Form<'_>, operands: &[u8])
+    requires { length table.old + (5 + length operands.now) ≤ 2560 }
+    ensures { table.new ≡ table.old ++ form_bytes earlier.now before.now form.entry.head.now form.entry.second.now operands.now }
 {
-    let k = vocabulary::code(s, f.a, f.b);
-    if k < 9 {
-        return table_writer::node_with(out, len, 3, k, stack, from, to);
+    let code = vocabulary::code(form.head);
+    if code < DEF {
+        table.node_with(Kind::Operator, code, operands);
+        return;
     }
-    match k {
-        10 => table_writer::node(out, len, 4, stack, from, to),
-        11 => table_writer::node_with(out, len, 5, variable(s, f.start), stack, from, to),
-        12 => table_writer::node(out, len, 6, stack, from, to),
-        13 => table_writer::node(out, len, 7, stack, from, to),
-        14 => table_writer::node_with(out, len, 8, slot(s, f.start), stack, from, to),
-        15 => table_writer::node_with(out, len, 9, slot(s, f.start), stack, from, to),
-        16 => table_writer::node_with(out, len, 13, slot(s, f.start), stack, from, to),
-        17 => put_fold(s, f, out, len, stack, from, to),
-        19 => {
-            let n = definition(s, f.top, f.a, f.b);
-            table_writer::node_with(out, len, 12, n, stack, from, to)
-        }
-        _ => table_writer::node(out, len, 12, stack, from, to),
+    match code {
+        SENSE => table.node(Kind::Sense, operands),
+        REP => table.node_with(Kind::Rep, byte_of(token_scans::reps_in(before)), operands),
+        IF => table.node(Kind::If, operands),
+        MUX => table.node(Kind::Mux, operands),
+        NBR => table.node_with(Kind::Nbr, slot(before), operands),
+        NBR_RANGE => table.node_with(Kind::Range, slot(before), operands),
+        NBR_LAG => table.node_with(Kind::Lag, slot(before), operands),
+        FOLD => put_fold(table, earlier, form.second, operands),
+        NAME => table.node_with(Kind::Call, definition(earlier, form.head), operands),
+        _ => table.node(Kind::Call, operands),
     }
 }

@@ -1,16 +1,10 @@
 -- What doing an event, and a list of events, asks and promises. Definitions only: nothing is assumed.
 use Rattle.std.specs.Prelude.{◌≡◌, List, ℕ, ℤ}
 use Rattle.program.specs.Tree.{Expr}
-use Rattle.event.specs.Event.{Event, Entry, or_none, read_list, entries_of, list_verdict}
+use Rattle.event.specs.Event.{Entry, read_list, entries_of, list_verdict}
 use Rattle.event.specs.Calls.{room, performed}
 use Rattle.effects.specs.Does.{Lit}
-use Rattle.lists.specs.declared.Event as coded
-use Rattle.lists.specs.Listed.{as_read}
 use Rattle.fire.specs.Fires.{MayFire}
-
--- the event of each case of the code's; `Bad` stands for a fire of no device, as in the crate event
-abbrev pub meant : coded.Event → Event
-meant e = or_none (as_read e)
 
 -- all that is tested before: a sound table, a sound network, a list that was read, and room for its answers
 pub record Tested (ws us : List ℕ) (main : ℕ) (n : List ℤ) (s : List ℕ) (space : List ℤ) : Type 0 where

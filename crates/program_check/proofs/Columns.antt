@@ -2,13 +2,12 @@
 use mathlib.Core.Path.{◌≡◌, refl, sym, ap, subst, ◌∙◌}
 use mathlib.Core.Bool.{Bool}
 use mathlib.Core.List.{List, ◌++◌}
-use Prim.Native.Nat.{ℕ, max, ◌+◌, ◌≤◌, ◌<◌}
-use native.Mathlib.Nat.{le-max_left, le-max_right, max-le}
+use Prim.Native.Nat.{ℕ, max, ◌+◌, ◌<◌}
 use native.Mathlib.Omega.{arith}
 use lib.ListN.{length, get_or}
 use borrow.Author.Count.{below_more}
 use Rattle.program.specs.Table.{node_limit}
-use Rattle.shapes.specs.Kinds.{fold_by_kind, call_kind}
+use Rattle.shapes.specs.Kinds.{fold_by_kind, call_kind, number_of}
 use Rattle.program.specs.Table as program
 use Rattle.program.specs.Tree.{spatial}
 use Rattle.program.specs.Check as checked
@@ -26,7 +25,7 @@ use Rattle.pack.specs.Packs.{kind_of, item_of, Column}
 use Rattle.program_check.specs.TreeRows.{Above, Packed, InColumns}
 
 -- the first value of a node of a kind that has an item first
-value_of : (x : Node) (m : ℕ) → x.kind ≡ m → get_or (head_of (lead_of m) x.item x.constant ++ children_of x) 0 0 ≡ x.item → get_or (node_of x).values 0 0 ≡ x.item
+value_of : (x : Node) (m : ℕ) → number_of x.kind ≡ m → get_or (head_of (lead_of m) x.item x.constant ++ children_of x) 0 0 ≡ x.item → get_or (node_of x).values 0 0 ≡ x.item
 unfolding node_of
 value_of x m e q = rw e q
 
@@ -64,7 +63,7 @@ module _ {t : Table} {ws : List ℕ} (p : Packed t ws) where
         → get_or (head_of (lead_of m) (node_at t n).item (node_at t n).constant ++ children_of (node_at t n)) 0 0 ≡ (node_at t n).item
         → (get_or (checked.node_at (table_of t) n).values 0 0 ≡ get_or items n 0) × (get_or items n 0 < length (table_of t).definitions)
     named m n l e lead v =
-        let x : (node_at t n).kind ≡ m = sym (k.each n l) ∙ e in
+        let x : number_of (node_at t n).kind ≡ m = sym (k.each n l) ∙ e in
         let low : (node_at t n).item < t.defs = ((p.good.nodes n l).definition (ap lead_of x ∙ lead)).0 in (
           ap (λ (x : program.Node). get_or x.values 0 0) (shown-node t p.good n checked.no_node l) ∙ value_of (node_at t n) m x v ∙ sym (i.each n l),
           omega (arith, i.each n l, definitions-shown),
@@ -94,14 +93,12 @@ columns_of c s a =
     rw (c.is_counts, c.is_bodies, c.is_n) (columns c.packed c.is_kinds c.is_items s (rw (c.is_bodies, c.is_defs) at a))
 
 -- one body more
-pub above-none : {bodies : List ℕ} → Above bodies 0 0
-above-none = record { few = omega arith; below = λ d h. absurd (omega arith) }
+pub above_none : {bodies : List ℕ} → Above bodies 0 0
+above_none = record { few = omega arith; below = λ d h. absurd (omega arith) }
 
 pub above_more : {bodies : List ℕ} {d top r : ℕ} → Above bodies d top → get_or bodies d 0 < node_limit → r ≡ max top (get_or bodies d 0 + 1) → Above bodies (d + 1) r
 above_more {bodies} {d} {top} {r} a l e =
-    let t : top ≤ r = rw e (le-max_left top (get_or bodies d 0 + 1)) in
-    let b : get_or bodies d 0 + 1 ≤ r = rw e (le-max_right top (get_or bodies d 0 + 1)) in
     record {
-      few = rw e (max-le a.few (omega arith));
+      few = let f = a.few in omega arith;
       below = below_more (λ (k : ℕ). get_or bodies k 0 < r) d (λ k h. let z = a.below k h in omega arith) (omega arith);
     }

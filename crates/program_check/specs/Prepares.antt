@@ -1,5 +1,5 @@
 -- The contracts of `examine` and `prepare`. Definitions only: nothing is assumed.
-use Rattle.std.specs.Prelude.{◌≡◌, List, ℕ, ◌≤◌, ◌<◌, length}
+use Rattle.std.specs.Prelude.{◌≡◌, List, ℕ, ◌≤◌, ◌<◌, length, Result, Ok, Err}
 use Rattle.program.specs.Table.{node_limit}
 use Rattle.program.specs.Check.{check, main_of}
 use Rattle.words.specs.Form.{number_forms}
@@ -8,7 +8,8 @@ use Rattle.words.specs.Trees.{tree_at}
 use Rattle.words.specs.Sound.{AllSorted, Sound}
 use Rattle.operands.specs.Formed.{AllFormed, Empty}
 use Rattle.program_check.specs.declared.Checked.{Checked}
-use Rattle.program_check.specs.declared.Prepared.{Prepared}
+use Rattle.verdict.specs.declared.Refusal.{Refusal}
+use Rattle.verdict.specs.Outcome.{refusal_at}
 
 -- the words of a program s that passes the check, with n nodes and this main node
 pub record Accepted (s ws : List ℕ) (n main : ℕ) : Type 0 where
@@ -21,9 +22,10 @@ pub record Accepted (s ws : List ℕ) (n main : ℕ) : Type 0 where
   pub number : form (word ws main) < number_forms
   pub tree : tree_at ws main ≡ main_of s
 
-pub record Checks (s : List ℕ) (r : Checked) (ws : List ℕ) : Type 0 where
-  pub verdict : (r.number, r.place) ≡ check s
-  pub passed : r.number ≡ 0 → Accepted s ws r.n r.main
+-- r is what the check of s comes to: where it passes, its main node, and how many nodes there are
+abbrev pub Checks : List ℕ → Result Checked Refusal → List ℕ → Type 0
+Checks s (Ok c) ws = (check s ≡ (0, 0)) × Accepted s ws c.n c.main
+Checks s (Err e) ws = check s ≡ refusal_at e
 
 -- the words and masks of an accepted program s, whose main node is main, are what a round requires
 pub record Ready (s ws us : List ℕ) (main : ℕ) : Type 0 where
@@ -32,6 +34,7 @@ pub record Ready (s ws us : List ℕ) (main : ℕ) : Type 0 where
   pub number : form (word ws main) < number_forms
   pub tree : tree_at ws main ≡ main_of s
 
-pub record Prepares (s : List ℕ) (r : Prepared) (ws us : List ℕ) : Type 0 where
-  pub verdict : (r.number, r.place) ≡ check s
-  pub ready : r.number ≡ 0 → Ready s ws us r.main
+-- r is the main node of an accepted program s, or its refusal
+abbrev pub Prepares : List ℕ → Result ℕ Refusal → List ℕ → List ℕ → Type 0
+Prepares s (Ok main) ws us = (check s ≡ (0, 0)) × Ready s ws us main
+Prepares s (Err e) ws us = check s ≡ refusal_at e

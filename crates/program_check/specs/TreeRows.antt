@@ -1,5 +1,5 @@
 -- What the rows over all nodes go by. Internal: no contract of a C function cites it. Definitions only: nothing is assumed.
-use Rattle.std.specs.Prelude.{◌≡◌, List, [], ◌++◌, ℕ, ◌<◌, ◌≤◌, length, get_or}
+use Rattle.std.specs.Prelude.{◌≡◌, List, [], ◌++◌, ℕ, ◌<◌, ◌≤◌, length, get_or, Option, Result, Ok, Err}
 use Rattle.program.specs.Table.{node_limit}
 use Rattle.words.specs.Form.{number_forms}
 use Rattle.program.specs.Table as program
@@ -8,10 +8,11 @@ use Rattle.program.specs.Check.{lowest, offending, use_offends, misread_in, tree
 use Rattle.words.specs.Word.{form, word}
 use Rattle.words.specs.Trees.{tree_at}
 use Rattle.words.specs.Sound.{AllSorted}
-use Rattle.verdict.specs.declared.Verdict.{Verdict}
-use Rattle.verdict.specs.Pair.{pair}
+use Rattle.verdict.specs.declared.Reason.{Reason}
+use Rattle.verdict.specs.declared.Refusal.{Refusal}
+use Rattle.verdict.specs.Outcome.{refusal_at}
 use Rattle.operands.specs.Formed.{AllFormed, Empty}
-use Rattle.operands.specs.Found.{found}
+use Rattle.operands.specs.Found.{place}
 use Rattle.load.specs.declared.Table.{Table}
 use Rattle.load.specs.Loads.{table_of, Good}
 use Rattle.pack.specs.Packs.{kind_of, item_of, Column}
@@ -50,12 +51,15 @@ pub record Runs (t : Table) (ws : List ℕ) : Type 0 where
   pub sorted : AllSorted ws
   pub number : form (word ws t.main) < number_forms
 
--- v is the verdict of the rows over all nodes
-pub record TreeRows (t : Table) (ws : List ℕ) (v : Verdict) : Type 0 where
-  pub verdict : pair v ≡ tree_rows (table_of t) t.main
-  pub runs : v.number ≡ 0 → Runs t ws
+abbrev pub refused : Reason → ℕ → Result Unit Refusal
+refused reason place = Err record { reason = reason; place = place }
+
+-- r is what the rows over all nodes come to
+abbrev pub TreeRows : Table → List ℕ → Result Unit Refusal → Type 0
+TreeRows t ws (Ok u) = (tree_rows (table_of t) t.main ≡ (0, 0)) × Runs t ws
+TreeRows t ws (Err e) = tree_rows (table_of t) t.main ≡ refusal_at e
 
 -- r is the lowest node of the table with these columns that offends by its use of a definition
-abbrev pub LowestMisuse : List ℕ → List ℕ → List ℕ → List ℕ → List ℕ → ℕ → ℕ → ℕ → Type 0
+abbrev pub LowestMisuse : List ℕ → List ℕ → List ℕ → List ℕ → List ℕ → ℕ → ℕ → Option ℕ → Type 0
 LowestMisuse ws kinds items counts bodies defs n r =
-    (t : Table) → InColumns t ws kinds items counts bodies defs n → lowest (offending (use_offends (table_of t)) (length (table_of t).nodes)) ≡ found r
+    (t : Table) → InColumns t ws kinds items counts bodies defs n → lowest (offending (use_offends (table_of t)) (length (table_of t).nodes)) ≡ place r

@@ -1,3 +1,2 @@
-mod Below
-mod Lessers
-mod Changes
+pub mod Lessers
+pub mod Changes

@@ -1,3 +1,3 @@
-pub mod Tests
 pub mod Clear
 pub mod RefusalRows
+pub mod Rows

@@ -20,12 +20,12 @@ use Rattle.words.specs.Form.{constant_form, operator_form}
 use Rattle.words.specs.Word.{form, item, word}
 use Rattle.words.specs.Trees.{tree_at}
 use Rattle.words.proofs.Trees.{tree-lit}
-use Rattle.operands.specs.Formed.{width, operand, has_body, binds, part, part_note, Formed, Empty}
+use Rattle.operands.specs.Formed.{width, operand, is_alone, has_body, binds, part, part_note, body_note, Formed, Empty}
 use Rattle.operands.proofs.Below.{body_below, set_more}
-use Rattle.operands.proofs.Alone.{Alone}
+use Rattle.operands.proofs.Alone.{alone_of}
 use Rattle.operands.proofs.Views.{View, is-constant, is-parameter, is-variable, is-operator, is-sense, is-rep, is-if, is-mux, is-fold-by, is_call, is-fold, is-nbr, is-range, is-lag, is-field-if}
 use Rattle.operands.proofs.Views.{is-field-operator, view}
-use Rattle.rep_masks.specs.Masks.{Mask, Masks, own_mask, body_mask, mask_of}
+use Rattle.rep_masks.specs.Masks.{Mask, Masks, own_mask, mask_of}
 
 -- ---- the variables of the reps under a node are its own, its body's and its operands'
 abbrev own_reps : ℕ → List ℕ
@@ -71,14 +71,14 @@ module _ {ws us : List ℕ} {n : ℕ} (f : Formed ws n) (m : Masks ws us n) (v :
   part-bit : (j : ℕ) → j < 4 → has_bit v (part_note 0 us (word ws n) j) ≡ among v (reps (part ws (word ws n) j))
   part-bit j h = named-bit (ltb j (width (word ws n))) (operand (word ws n) j) (λ e. f.operands j h (ltb-true j (width (word ws n)) e))
 
-  body-bit : has_bit v (body_mask us (word ws n)) ≡ among v (reps (body_tree ws (word ws n)))
+  body-bit : has_bit v (body_note 0 us (word ws n)) ≡ among v (reps (body_tree ws (word ws n)))
   body-bit = named-bit (has_body (word ws n)) (operand (word ws n) 4) (body_below f)
 
   pub mask-bit : has_bit v (mask_of us (word ws n)) ≡ among v (reps (tree_at ws n))
   unfolding mask_of
   mask-bit =
       simp (or-bit, own-bit (word ws n), body-bit, part-bit 0 (omega arith), part-bit 1 (omega arith), part-bit 2 (omega arith), part-bit 3 (omega arith))
-      (sym (ap (among v) (all-reps (view f)) ∙ simp among-append))
+      (simp or_assoc (sym (ap (among v) (all-reps (view f)) ∙ simp among-append)))
 
 -- ---- one more node noted
 -- what is not noted yet stays 0
@@ -121,12 +121,16 @@ masks-rest {ws} {us} {n} empty s blank = record { long = s.long; mask = λ k h. 
         let z : form (word ws k) ≡ constant_form = rw (empty.rest k m) in
         rw (blank.rest k m, tree-lit ws k z) (no-bit v)
 
--- ---- a node that names no other has none
-pub alone-mask : (us : List ℕ) (w : ℕ) → Alone w → 0 ≡ mask_of us w
-unfolding mask_of
-alone-mask us w l = rw (l.narrow, l.bodiless, l.free)
+-- ---- a node that names no other has none, an operator has those of its two sides
+module _ (us : List ℕ) (w : ℕ) where
+  pub alone_mask : is_alone w ≡ true → mask_of us w ≡ 0
+  unfolding mask_of
+  alone_mask h = let l = alone_of w h in rw (l.narrow, l.bodiless, l.free)
 
--- ---- an operator has those of its two sides
-pub operator-mask : (us : List ℕ) (w : ℕ) → form w ≡ operator_form → bit_or (part_note 0 us w 0) (part_note 0 us w 1) ≡ mask_of us w
-unfolding mask_of width
-operator-mask us w h = rw h (simp (or_zero_l, or_zero_r))
+  pub operator_mask : form w ≡ operator_form → mask_of us w ≡ bit_or (part_note 0 us w 0) (part_note 0 us w 1)
+  unfolding mask_of width
+  operator_mask h = rw h (simp (or_zero_l, or_zero_r))
+
+  pub mask_parts : mask_of us w ≡ bit_or (bit_or (bit_or (bit_or (own_mask w) (body_note 0 us w)) (bit_or (part_note 0 us w 0) (part_note 0 us w 1))) (part_note 0 us w 2)) (part_note 0 us w 3)
+  unfolding mask_of
+  mask_parts = refl

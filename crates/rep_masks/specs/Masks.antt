@@ -6,7 +6,7 @@ use Rattle.round.specs.Round.{reps}
 use Rattle.bits.specs.Bits.{has_bit}
 use Rattle.words.specs.Word.{item}
 use Rattle.words.specs.Trees.{tree_at}
-use Rattle.operands.specs.Formed.{operand, has_body, binds, part_note}
+use Rattle.operands.specs.Formed.{binds, part_note, body_note}
 
 -- m's bits are the variables of the reps under node n, in called definitions too
 abbrev pub Mask : List ℕ → ℕ → ℕ → Type 0
@@ -17,12 +17,9 @@ pub record Masks (ws us : List ℕ) (n : ℕ) : Type 0 where
   pub long : length us ≡ node_limit
   pub mask : (k : ℕ) → k < n → Mask ws k (get_or us k 0)
 
--- the variable that a word binds, those of its body, of all that it names
+-- the variable that a word binds, and those of all that it names
 abbrev pub own_mask : ℕ → ℕ
 own_mask w = cond (binds w) (2 ^ item w) 0
 
-abbrev pub body_mask : List ℕ → ℕ → ℕ
-body_mask us w = cond (has_body w) (get_or us (operand w 4) 0) 0
-
 unfoldable pub mask_of : List ℕ → ℕ → ℕ
-mask_of us w = bit_or (own_mask w) (bit_or (body_mask us w) (bit_or (part_note 0 us w 0) (bit_or (part_note 0 us w 1) (bit_or (part_note 0 us w 2) (part_note 0 us w 3)))))
+mask_of us w = bit_or (bit_or (bit_or (bit_or (own_mask w) (body_note 0 us w)) (bit_or (part_note 0 us w 0) (part_note 0 us w 1))) (part_note 0 us w 2)) (part_note 0 us w 3)

@@ -1,57 +1,51 @@
 // The replay of a shift: reads program.pf and events.pf in the current folder, and prints the answers or the refusal.
 #![tactic(auto)]
 
-ghost use Rattle.std.specs.Prelude.{◌≡◌, ◌+◌, ◌≤◌, length};
+ghost use Rattle.std.specs.Prelude.{◌≡◌, ◌+◌, length};
 ghost use Rattle.files.specs.Whole.{Shorter};
-ghost use Rattle.io.specs.Counts.{IsPrefixLen};
-ghost use Rattle.lines.specs.Text.{Begins};
-ghost use Rattle.shift.specs.Replayed.{file_size, text_room};
+ghost use Rattle.shift.specs.Replayed.{file_size};
 ghost use Rattle.replay.specs.Text.{text_of, Printed};
 
+use shift::Text;
 use std::rt::Files;
+use verdict::{Reason, Refusal};
 
 // One byte more than a replay file may have.
 const LONGER: usize = layout::FILE + 1;
 
-// Puts the text at the start of `out`: how many bytes it has. `first` and `second` are what the reads into `program` and `list` answered.
-fn text(
-    first: files::Whole,
-    second: files::Whole,
-    program: &[u8],
-    list: &[u8],
-    out: &mut [u8],
-) -> usize
-    requires shorter { Shorter first program.now × Shorter second list.now }
-    requires text_room_in_bounds { text_room ≤ length out.old }
-    ensures { Begins out.new result (text_of first program.now second list.now) }
+// The text of two files: `first` and `second` are what the reads into `program` and `list` answered.
+#[tactic(auto, unfolding(crate::specs::Text::text_of))]
+fn text(first: Option<usize>, second: Option<usize>, program: &[u8], list: &[u8]) -> Text
+    requires { Shorter first program.now × Shorter second list.now }
+    ensures { result.bytes ≡ text_of first program.now second list.now }
 {
-    let files::Whole::Bytes(p) = first else {
-        return lines::put_refused(18, 0, out); // no program
+    let (Some(p), Some(n)) = (first, second) else {
+        let mut text = Text::new();
+        let refusal = Refusal {
+            reason: Reason::BadFile,
+            place: 0,
+        };
+        lines::put_refused(refusal, &mut text);
+        return text;
     };
-    let files::Whole::Bytes(n) = second else {
-        return lines::put_refused(18, 0, out); // no list
-    };
-    shift::replayed(&program[..p], &list[..n], out)
+    shift::replayed(&program[..p], &list[..n])
 }
 
-// Reads both files, and puts their text at the start of `out`: how many bytes it has.
-fn replay<R: Files>(rt: &R, program: &mut [u8], list: &mut [u8], out: &mut [u8]) -> usize
-    requires program_len { (length program.old ≡ 1 + file_size) × (length list.old ≡ 1 + file_size) }
-    requires text_room_in_bounds { text_room ≤ length out.old }
-    ensures prefix_len { IsPrefixLen result out.new }
-    ensures printed { Printed program.new list.new out.new result }
+// Reads both files: their text.
+fn replay<R: Files>(rt: &R, program: &mut [u8], list: &mut [u8]) -> Text
+    requires { (length program.old ≡ 1 + file_size) × (length list.old ≡ 1 + file_size) }
+    ensures { Printed program.new list.new result.bytes }
 {
     let first = files::read(rt, b"program.pf", program);
     let second = files::read(rt, b"events.pf", list);
-    text(first, second, program, list, out)
+    text(first, second, program, list)
 }
 
 fn main(rt: HostRuntime) {
-    let mut program = [0u8; LONGER];
-    let mut list = [0u8; LONGER];
-    let mut out = [0u8; shift::ROOM];
-    let n = replay(&rt, &mut program, &mut list, &mut out);
-    let is_written = rt.stdout().write_all(&out[..n]).is_ok();
+    let mut program = [0; LONGER];
+    let mut list = [0; LONGER];
+    let text = replay(&rt, &mut program, &mut list);
+    let is_written = rt.stdout().write_all(text.as_str().as_bytes()).is_ok();
     if !is_written {
         let _ = rt.stderr().write_all(b"replay: cannot write\n");
     }

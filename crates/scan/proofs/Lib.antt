@@ -1,3 +1,3 @@
 mod Tests
-mod First
 mod Blocks
+mod First

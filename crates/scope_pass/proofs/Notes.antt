@@ -1,12 +1,12 @@
 -- What a node's tree reads, from what its operands read. Assumes nothing.
-use mathlib.Core.Path.{◌≡◌, refl, sym, ap, ◌∙◌}
+use mathlib.Core.Path.{◌≡◌, refl, sym, ◌∙◌}
 use mathlib.Core.Bool.{Bool, true, false, not, cond, ◌||◌, true≢false}
 use mathlib.Core.List.{List, [], ◌∷◌}
-use Prim.Native.Nat.{ℕ, ◌+◌, ◌-◌, ◌/◌, ◌^◌, ◌<◌}
+use Prim.Native.Nat.{ℕ, ◌+◌, ◌-◌, ◌*◌, ◌/◌, ◌%◌, ◌^◌, ◌<◌}
 use native.Mathlib.Omega.{arith}
 use lib.ListN.{length, get_or, set, length-set}
 use lib.Dec.{eqb, ltb}
-use lib.Bits.{bit_and, bit_or, and_zero_l, or_zero_r}
+use lib.Bits.{bit_and, bit_or, or_zero_r}
 use borrow.Author.Count.{below_none}
 use borrow.Author.Tests.{eqb-false, ltb-true, ltb-false, lt-ltb}
 use Rattle.program.specs.Table.{among, node_limit}
@@ -14,15 +14,15 @@ use Rattle.decide.proofs.Picks.{neither}
 use Rattle.program.specs.Tree.{nothing, misread}
 use Rattle.bits.specs.Bits.{has_bit, all_bits}
 use Rattle.decide.proofs.Below.{all-below}
-use Rattle.bits.proofs.Bits.{same, same-eq, no-bit, or-bit, own-bit, bit-stays, no-high}
+use Rattle.bits.proofs.Bits.{same, same-eq, no-bit, or-bit, own-bit, bit-stays, no-high, shifted-high}
 use Rattle.words.specs.Form.{constant_form, parameter_form, operator_form}
 use Rattle.words.specs.Word.{form, item, word}
 use Rattle.words.specs.Trees.{tree_at}
 use Rattle.operands.specs.Formed.{width, operand, alone_set, read_set, is_alone, binds, reads, part, part_note, Formed}
-use Rattle.operands.proofs.Below.{set_more, asks-part}
+use Rattle.operands.proofs.Below.{set_more}
 use Rattle.operands.proofs.Alone.{alone_of}
-use Rattle.operands.proofs.Views.{view, width_of}
-use Rattle.scope_pass.specs.Reads.{variables_at, Allowed, Tells, Notes, Within, Named, own_set, own_reads, inner_reads, parts_of, reads_of}
+use Rattle.operands.proofs.Views.{view}
+use Rattle.scope_pass.specs.Reads.{variables_at, Allowed, Tells, Notes, Within, own_set, own_reads, inner_reads, parts_of, reads_of}
 use Rattle.scope_pass.proofs.Misread.{own_list, kept_in, all-misread}
 
 -- ---- what may be read
@@ -94,54 +94,27 @@ own_alone : (w : ℕ) → has_bit (form w) own_set ≡ true → is_alone w ≡ t
 unfolding owned-alone
 own_alone w e = rw e at (all-below owned-alone 32 refl (form w) (omega arith))
 
--- ---- operands by their number
+-- ---- what a node reads, by its form
+-- the bit of variable i, as it is shifted to its place
+pub high_bit : (i : ℕ) → i < 16 → 65536 * 2 ^ i % 4294967296 ≡ 2 ^ (variables_at + i)
+high_bit = shifted-high
+
 module _ (us : List ℕ) (w : ℕ) where
-  abbrev noted : ℕ → ℕ
-  noted j = get_or us (operand w j) 0
-
-  inner-none : inner_reads w 0 ≡ 0
-  inner-none = go (binds w)
-    where
-      go : (b : Bool) → cond b (bit_and 0 (all_bits - 2 ^ (variables_at + item w))) 0 ≡ 0
-      go true = and_zero_l (all_bits - 2 ^ (variables_at + item w))
-      go false = refl
-
-  pub parts-0 : width w ≡ 0 → 0 ≡ parts_of us w
-  unfolding parts_of
-  parts-0 h = rw (h, inner-none)
-
-  pub parts-1 : width w ≡ 1 → noted 0 ≡ parts_of us w
-  unfolding parts_of
-  parts-1 h = rw (h, inner-none) (simp or_zero_r)
-
-  pub parts-2 : width w ≡ 2 → bit_or (noted 0) (inner_reads w (noted 1)) ≡ parts_of us w
-  unfolding parts_of
-  parts-2 h = rw h (simp or_zero_r)
-
-  pub parts-3 : width w ≡ 3 → bit_or (bit_or (noted 0) (inner_reads w (noted 1))) (noted 2) ≡ parts_of us w
-  unfolding parts_of
-  parts-3 h = rw h (simp or_zero_r)
-
-  pub parts-4 : 3 < width w → bit_or (bit_or (bit_or (noted 0) (inner_reads w (noted 1))) (noted 2)) (noted 3) ≡ parts_of us w
-  unfolding parts_of
-  parts-4 h = rw (lt-ltb 0 (width w) (omega arith), lt-ltb 1 (width w) (omega arith), lt-ltb 2 (width w) (omega arith), lt-ltb 3 (width w) h)
-
-  -- the same by the form
-  pub reads-own : has_bit (form w) own_set ≡ true → own_reads w ≡ reads_of us w
+  pub reads_own : has_bit (form w) own_set ≡ true → reads_of us w ≡ own_reads w
   unfolding reads_of
-  reads-own e = rw e
+  reads_own e = rw e
 
-  pub reads-parts : has_bit (form w) own_set ≡ false → parts_of us w ≡ reads_of us w
+  pub reads_parts : has_bit (form w) own_set ≡ false → reads_of us w ≡ parts_of us w
   unfolding reads_of
-  reads-parts e = rw e
+  reads_parts e = rw e
 
-  pub reads-constant : form w ≡ constant_form → 0 ≡ reads_of us w
-  reads-constant h = parts-0 (alone_of w (rw h)).narrow ∙ reads-parts (rw h)
+  pub reads_constant : form w ≡ constant_form → reads_of us w ≡ 0
+  unfolding width
+  reads_constant h = reads_parts (rw h) ∙ rw h
 
-  pub reads-operator : form w ≡ operator_form → bit_or (noted 0) (noted 1) ≡ reads_of us w
-  reads-operator h =
-      let e : inner_reads w (noted 1) ≡ noted 1 = rw h in
-      ap (bit_or (noted 0)) (sym e) ∙ parts-2 (width_of w operator_form h refl) ∙ reads-parts (rw h)
+  pub reads_operator : form w ≡ operator_form → reads_of us w ≡ bit_or (part_note 0 us w 0) (part_note 0 us w 1)
+  unfolding width
+  reads_operator h = reads_parts (rw h) ∙ rw h (simp or_zero_r)
 
 -- ---- a node's tree misreads nothing wherever what it reads may be read
 module _ {ws us : List ℕ} {n : ℕ} (f : Formed ws n) (m : Notes ws us n) (count : ℕ) where
@@ -168,7 +141,6 @@ module _ {ws us : List ℕ} {n : ℕ} (f : Formed ws n) (m : Notes ws us n) (cou
           rw (r, al.variable (item w) (omega arith) (own-bit (variables_at + item w) (omega arith)))
 
   together : (kept : List ℕ) → own_list n w count kept ≡ [] → Allowed count kept (parts_of us w) → misread count kept (tree_at ws n) ≡ []
-  unfolding parts_of
   together kept o al =
       let a = left (bit_or (bit_or (part_note 0 us w 0) (inner_reads w (part_note 0 us w 1))) (part_note 0 us w 2)) (part_note 0 us w 3) al in
       let b = left (bit_or (part_note 0 us w 0) (inner_reads w (part_note 0 us w 1))) (part_note 0 us w 2) a in
@@ -186,7 +158,7 @@ module _ {ws us : List ℕ} {n : ℕ} (f : Formed ws n) (m : Notes ws us n) (cou
   node-clean kept al = go (has_bit (form w) own_set) refl al
     where
       go : (b : Bool) → has_bit (form w) own_set ≡ b → Allowed count kept (cond b (own_reads w) (parts_of us w)) → misread count kept (tree_at ws n) ≡ []
-      go true o al = together kept (own-clean kept o al) (rw (← parts-0 us w (alone_of w (own_alone w o)).narrow) (allowed-none count kept))
+      go true o al = let l = alone_of w (own_alone w o) in together kept (own-clean kept o al) (rw (l.narrow, l.free) (allowed-none count kept))
       go false o al = let (p, r) = neither (eqb (form w) parameter_form) (reads w) (sym (own_is w) ∙ o) in together kept (rw (p, r)) al
 
 -- ---- one more node noted
@@ -200,9 +172,6 @@ notes-more {ws} {us} {n} {m} h f s e =
       told = set_more (λ k. Tells (tree_at ws k)) us n m 0 (omega (arith, s.long)) s.told
           (record { none = λ count kept al. node-clean f s count kept (rw e at al) });
     }
-
-pub named : {ws : List ℕ} {n : ℕ} → n < node_limit → Formed ws n → Named (word ws n)
-named l f = record { operands = λ j h g. (asks-part l f j h).1 g }
 
 -- ---- the trees
 module _ {ws us : List ℕ} (last : ℕ) (s : Notes ws us (last + 1)) where

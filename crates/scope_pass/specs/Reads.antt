@@ -8,7 +8,7 @@ use Rattle.bits.specs.Bits.{has_bit, all_bits}
 use Rattle.words.specs.Form.{parameter_form}
 use Rattle.words.specs.Word.{form, item}
 use Rattle.words.specs.Trees.{tree_at}
-use Rattle.operands.specs.Formed.{width, operand, read_set, binds, part_note}
+use Rattle.operands.specs.Formed.{read_set, binds, part_note}
 
 -- the bit of variable 0
 abbrev pub variables_at : ℕ
@@ -39,10 +39,6 @@ pub record Clean (ws counts bodies : List ℕ) (definitions main : ℕ) : Type 0
   pub root : misread 0 [] (tree_at ws main) ≡ []
   pub body : (d : ℕ) → d < definitions → misread (get_or counts d 0) [] (tree_at ws (get_or bodies d 0)) ≡ []
 
--- what a word names can be looked up
-pub record Named (w : ℕ) : Type 0 where
-  pub operands : (j : ℕ) → j < 4 → j < width w → operand w j < node_limit
-
 -- the forms that read something of themselves: of a parameter, else of a variable
 abbrev pub own_set : ℕ
 own_set = 2 ^ parameter_form + read_set
@@ -54,7 +50,7 @@ own_reads w = cond (eqb (form w) parameter_form) (2 ^ item w) (2 ^ (variables_at
 abbrev pub inner_reads : ℕ → ℕ → ℕ
 inner_reads w m = cond (binds w) (bit_and m (all_bits - 2 ^ (variables_at + item w))) m
 
-unfoldable pub parts_of : List ℕ → ℕ → ℕ
+abbrev pub parts_of : List ℕ → ℕ → ℕ
 parts_of us w = bit_or (bit_or (bit_or (part_note 0 us w 0) (inner_reads w (part_note 0 us w 1))) (part_note 0 us w 2)) (part_note 0 us w 3)
 
 unfoldable pub reads_of : List ℕ → ℕ → ℕ

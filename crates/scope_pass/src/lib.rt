@@ -2,105 +2,75 @@
 // once, from the lowest node up: a quick pass, in which no tree is walked.
 #![tactic(auto)]
 
-ghost use Rattle.std.specs.Prelude.{◌≡◌, true, ◌+◌, ◌<◌, ◌≤◌, get_or, length};
+ghost use Rattle.std.specs.Prelude.{◌≡◌, true, ◌<◌, ◌≤◌};
 ghost use Rattle.program.specs.Table.{node_limit};
-ghost use Rattle.operands.specs.Formed.{width, operand as operand_at, AllFormed};
-ghost use Rattle.scope_pass.specs.Reads.{own_reads, inner_reads, parts_of, reads_of, Named, Notes, Within, Clean};
+ghost use Rattle.words.specs.Word.{word};
+ghost use Rattle.scope_pass.specs.Reads.{own_reads, inner_reads, reads_of, Notes, Within, Clean};
 
-use operands::{is, operand, width_of};
-use unpack::{count_of, form_of, item_of};
+use operands::{Words, is};
+use unpack::{form_of, item_of};
 
 // What a tree reads is a number of 32 bits: the parameters in the low sixteen, and in the high sixteen the variables that
 // no rep of the tree binds.
-const VARIABLES: u32 = 65536;
-
-const ALL: u32 = 4294967295;
+const VARIABLES: u32 = 1 << 16;
 
 // The forms that read something of themselves.
 const OWN: u32 = (1 << unpack::PARAMETER) | operands::READ;
 
 // A parameter or a variable.
+#[tactic(auto, using(crate::proofs::Notes::high_bit))]
 fn own_reads(w: u64) -> u32
     ensures { result ≡ own_reads w }
 {
     if form_of(w) == unpack::PARAMETER {
-        let one: u32 = 1;
-        return one << item_of(w);
+        1 << item_of(w)
+    } else {
+        VARIABLES << item_of(w)
     }
-    VARIABLES << item_of(w)
-}
-
-// Operand j.
-fn part(us: &[u32; layout::NODES], w: u64, j: u32) -> u32
-    requires { (j < 4) × (operand_at w j < node_limit) }
-    ensures { result ≡ get_or us.now (operand_at w j) 0 }
-{
-    us[operand(w, j)]
 }
 
 // What operand 1 reads, but for the variable that the node binds in it.
+#[tactic(auto, using(crate::proofs::Notes::high_bit))]
 fn inner_reads(w: u64, x: u32) -> u32
     ensures { result ≡ inner_reads w x }
 {
     if is(w, operands::BIND) {
-        return x & (ALL - (VARIABLES << item_of(w)));
+        x & !(VARIABLES << item_of(w))
+    } else {
+        x
     }
-    x
 }
 
-// All operands, of which there are k.
-fn parts(us: &[u32; layout::NODES], w: u64, k: u8) -> u32
-    requires { Named w × (k ≡ width w) }
-    ensures { result ≡ parts_of us.now w }
+// Node n. Constants and operators, which are most of a table, are told apart first.
+#[tactic(auto, using(crate::proofs::Notes::reads_constant, crate::proofs::Notes::reads_operator, crate::proofs::Notes::reads_own, crate::proofs::Notes::reads_parts))]
+fn reads_of(ws: Words<'_>, us: &[u32; layout::NODES], n: usize) -> u32
+    requires { n < node_limit }
+    ensures { result ≡ reads_of us.now (word ws.entry.all.now n) }
 {
-    if k == 0 {
+    let w = ws.all[n];
+    let form = form_of(w);
+    if form == unpack::CONSTANT {
         return 0;
     }
-    let x = part(us, w, 0);
-    if k == 1 {
-        return x;
-    }
-    let x = x | inner_reads(w, part(us, w, 1));
-    if k == 2 {
-        return x;
-    }
-    let x = x | part(us, w, 2);
-    if k == 3 {
-        return x;
-    }
-    x | part(us, w, 3)
-}
-
-// A node of word w. Constants and operators, which are most of a table, and calls are told apart first.
-fn reads_of(us: &[u32; layout::NODES], w: u64) -> u32
-    requires { Named w }
-    ensures { result ≡ reads_of us.now w }
-{
-    let k = form_of(w);
-    if k == unpack::CONSTANT {
-        return 0;
-    }
-    if k == unpack::OPERATOR {
-        return part(us, w, 0) | part(us, w, 1);
+    if form == unpack::OPERATOR {
+        return ws.noted(n, 0, us, 0) | ws.noted(n, 1, us, 0);
     }
     if is(w, OWN) {
         return own_reads(w);
     }
-    if k == unpack::CALL {
-        return parts(us, w, count_of(w));
-    }
-    parts(us, w, width_of(w))
+    ws.noted(n, 0, us, 0)
+        | inner_reads(w, ws.noted(n, 1, us, 0))
+        | ws.noted(n, 2, us, 0)
+        | ws.noted(n, 3, us, 0)
 }
 
-// Each node up to the last.
-fn note(ws: &[u64; layout::NODES], us: &mut [u32; layout::NODES], last: usize)
-    requires { AllFormed ws.now × (length us.old ≡ node_limit) × (last < node_limit) }
-    ensures { Notes ws.now us.new (last + 1) }
+// Each node below count.
+fn note(ws: Words<'_>, us: &mut [u32; layout::NODES], count: usize)
+    requires { count ≤ node_limit }
+    ensures { Notes ws.entry.all.now us.new count }
 {
-    let mut n = 0;
-    while n <= last {
-        us[n] = reads_of(us, ws[n]);
-        n += 1;
+    for n in 0..count {
+        us[n] = reads_of(ws, us, n);
     }
 }
 
@@ -108,36 +78,28 @@ fn note(ws: &[u64; layout::NODES], us: &mut [u32; layout::NODES], last: usize)
 fn within(us: &[u32; layout::NODES], last: usize, body: u8, count: u8) -> bool
     ensures { result ≡ true → Within us.now last body count }
 {
-    let b = body as usize;
-    if last < b {
-        return false;
-    }
-    if 15 < count {
-        return false;
-    }
-    us[b] >> count == 0
+    let b = usize::from(body);
+    b <= last && count < 16 && us[b] >> count == 0
 }
 
 // Whether main's tree and those of the definitions misread nothing. True is sure; where a body stands above main, the
 // answer is false.
 pub fn clean(
-    ws: &[u64; layout::NODES],
+    ws: Words<'_>,
     counts: &[u8; layout::NODES],
     bodies: &[u8; layout::NODES],
     definitions: usize,
     main: usize,
 ) -> bool
-    requires { AllFormed ws.now × (definitions ≤ node_limit) × (main < node_limit) }
-    ensures { result ≡ true → Clean ws.now counts.now bodies.now definitions main }
+    requires { (definitions ≤ node_limit) × (main < node_limit) }
+    ensures { result ≡ true → Clean ws.entry.all.now counts.now bodies.now definitions main }
 {
     let mut us = [0; layout::NODES];
-    note(ws, &mut us, main);
-    let mut d: usize = 0;
-    while d < definitions {
+    note(ws, &mut us, main + 1);
+    for d in 0..definitions {
         if !within(&us, main, bodies[d], counts[d]) {
             return false;
         }
-        d += 1;
     }
     us[main] == 0
 }

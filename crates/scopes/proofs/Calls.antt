@@ -2,6 +2,7 @@
 use mathlib.Core.Path.{◌≡◌, refl, sym, ap, subst, ◌∙◌}
 use mathlib.Core.Bool.{Bool, true, false, not, ◌&&◌, ◌||◌, or_assoc, or-false, and-true, and-false}
 use mathlib.Core.List.{List, [], ◌∷◌, ◌++◌}
+use Rattle.std.proofs.Common.{Some, None}
 use Prim.Native.Nat.{ℕ, zero, suc, ◌+◌, ◌≤◌, ◌<◌}
 use native.Mathlib.Numerals.{add-one}
 use native.Mathlib.Omega.{arith}
@@ -9,7 +10,7 @@ use lib.ListN.{length, get_or, set, take, replicate, length-set, length-replicat
 use lib.Seq.{take-suc, get_or-set_same, get_or-set_other}
 use lib.Dec.{eqb}
 use borrow.Author.Count.{below_more}
-use borrow.Author.Tests.{eqb-true, eqb-false, eq-eqb, ne_eqb, lt-ltb}
+use borrow.Author.Tests.{eqb-true, eqb-false, eq-eqb, ne_eqb}
 use Rattle.program.specs.Table.{Node, Table, definition_at, is_call, node_limit}
 use Rattle.program.specs.Tree.{tree, spatial}
 use Rattle.program.specs.Check.{no_node, node_at, called, use_offends}
@@ -118,11 +119,9 @@ module _ {kinds items counts bodies : List ℕ} {sp : List Bool} {called : List 
   pub passes : r ≡ false → CleanBelow kinds items counts bodies sp count (n + 1)
   passes z = record { none = λ t s. below_more (λ (k : ℕ). use_offends t k ≡ false) n (p.none t s) (tested t s ∙ z) }
 
-  pub stops : r ≡ true → count ≤ node_limit → LowestUse kinds items counts bodies sp count n
-  stops z c t s =
-      rw (lt-ltb n node_limit (omega arith))
-      (one-offends (use_offends t) (length t.nodes) n (omega (arith, s.all)) (p.none t s) (tested t s ∙ z))
+  pub stops : r ≡ true → LowestUse kinds items counts bodies sp count (Some n)
+  stops z t s = one-offends (use_offends t) (length t.nodes) n (omega (arith, s.all)) (p.none t s) (tested t s ∙ z)
 
 pub ends : {kinds items counts bodies : List ℕ} {sp : List Bool} {count n : ℕ} → CleanBelow kinds items counts bodies sp count n → count ≤ n
-    → LowestUse kinds items counts bodies sp count node_limit
+    → LowestUse kinds items counts bodies sp count None
 ends p h t s = none-offends (use_offends t) (length t.nodes) (λ k l. p.none t s k (omega (arith, s.all)))

@@ -1,42 +1,43 @@
 -- The lowest of two lists. Assumes nothing.
-use mathlib.Core.Path.{◌≡◌, refl, ap, ◌∙◌}
-use mathlib.Core.Bool.{Bool, true, false, cond}
+use mathlib.Core.Path.{◌≡◌, refl, ap}
 use mathlib.Core.List.{List, [], ◌∷◌, ◌++◌}
 use mathlib.Core.Option.{Option, none, some}
-use Prim.Native.Nat.{ℕ, min}
+use Prim.Native.Nat.{ℕ}
 use native.Mathlib.Omega.{arith}
-use lib.Dec.{ltb}
-use borrow.Author.Tests.{ltb-true, ltb-false, lt-ltb, le-ltb}
 use Rattle.program.specs.Check.{lowest}
-use Rattle.program.specs.Table.{node_limit}
-use Rattle.operands.specs.Found.{found}
-use Rattle.scopes.specs.Places.{At}
+use Rattle.scopes.specs.Places.{lower}
 
-abbrev both : Option ℕ → Option ℕ → Option ℕ
-both none y = y
-both (some n) none = some n
-both (some n) (some m) = some (min n m)
-
-lowest-append : (a b : List ℕ) → lowest (a ++ b) ≡ both (lowest a) (lowest b)
+pub lower-append : (a b : List ℕ) → lowest (a ++ b) ≡ lower (lowest a) (lowest b)
 unfolding lowest
-lowest-append [] b = refl
-lowest-append (n ∷ a) b = go (lowest a) (lowest b) refl refl (lowest-append a b)
+lower-append [] b = refl
+lower-append (n ∷ a) b = go (lowest a) (lowest b) refl refl (lower-append a b)
   where
-    go : (x y : Option ℕ) → lowest a ≡ x → lowest b ≡ y → lowest (a ++ b) ≡ both (lowest a) (lowest b)
-        → lowest (n ∷ a ++ b) ≡ both (lowest (n ∷ a)) (lowest b)
+    go : (x y : Option ℕ) → lowest a ≡ x → lowest b ≡ y → lowest (a ++ b) ≡ lower (lowest a) (lowest b)
+        → lowest (n ∷ a ++ b) ≡ lower (lowest (n ∷ a)) (lowest b)
     go none none p q r = rw (r, p, q)
     go none (some m) p q r = rw (r, p, q)
     go (some k) none p q r = rw (r, p, q)
     go (some k) (some m) p q r = rw (r, p, q) (ap some (omega arith))
 
-both_found : (x y : ℕ) → both (found x) (found y) ≡ found (min x y)
-both_found x y = go (ltb x node_limit) (ltb y node_limit) refl refl
-  where
-    go : (p q : Bool) → ltb x node_limit ≡ p → ltb y node_limit ≡ q → both (cond p (some x) none) (cond q (some y) none) ≡ found (min x y)
-    go true true e f = rw (lt-ltb (min x y) node_limit (omega (arith, ltb-true x node_limit e)))
-    go true false e f = let m : min x y ≡ x = omega (arith, ltb-true x node_limit e, ltb-false y node_limit f) in rw (m, e)
-    go false true e f = let m : min x y ≡ y = omega (arith, ltb-false x node_limit e, ltb-true y node_limit f) in rw (m, f)
-    go false false e f = rw (le-ltb (min x y) node_limit (omega (arith, ltb-false x node_limit e, ltb-false y node_limit f)))
+pub lower_none : (x : Option ℕ) → lower x none ≡ x
+lower_none none = refl
+lower_none (some n) = refl
 
-pub join : {a b : List ℕ} {x y : ℕ} → At a x → At b y → At (a ++ b) (min x y)
-join {a} {b} {x} {y} p q = record { is = lowest-append a b ∙ rw (p.is, q.is) (both_found x y) }
+pub lower_comm : (x y : Option ℕ) → lower x y ≡ lower y x
+lower_comm none none = refl
+lower_comm none (some m) = refl
+lower_comm (some n) none = refl
+lower_comm (some n) (some m) = ap some (omega arith)
+
+pub lower_assoc : (x y z : Option ℕ) → lower (lower x y) z ≡ lower x (lower y z)
+lower_assoc none y z = refl
+lower_assoc (some n) none z = refl
+lower_assoc (some n) (some m) none = refl
+lower_assoc (some n) (some m) (some k) = ap some (omega arith)
+
+-- a part that comes behind another, first
+pub lower_turn : (x y z : Option ℕ) → lower x (lower y z) ≡ lower y (lower x z)
+lower_turn none y z = refl
+lower_turn (some n) none z = refl
+lower_turn (some n) (some m) none = ap some (omega arith)
+lower_turn (some n) (some m) (some k) = ap some (omega arith)

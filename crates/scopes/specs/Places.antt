@@ -1,13 +1,14 @@
 -- The lowest of some nodes, and how the columns of a table stand to its definitions. Internal: no public
 -- contract cites it. Definitions only: nothing is assumed.
-use Rattle.std.specs.Prelude.{◌≡◌, List, ℕ, ◌<◌, length, get_or}
+use Rattle.std.specs.Prelude.{◌≡◌, List, ℕ, min, ◌<◌, length, get_or}
+use Rattle.std.proofs.Math.Option.{Option, none, some}
 use Rattle.program.specs.Table.{Table, definition_at}
-use Rattle.program.specs.Check.{lowest}
-use Rattle.operands.specs.Found.{found}
 
--- r is the lowest of them
-pub record At (ns : List ℕ) (r : ℕ) : Type 0 where
-  pub is : lowest ns ≡ found r
+-- the lower of two, where there are two
+abbrev pub lower : Option ℕ → Option ℕ → Option ℕ
+lower none y = y
+lower (some n) none = some n
+lower (some n) (some m) = some (min n m)
 
 -- definition d has the d-th parameter count and the d-th body node, which is given
 pub record Defined (t : Table) (counts bodies : List ℕ) (definitions : ℕ) : Type 0 where

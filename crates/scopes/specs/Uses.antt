@@ -1,10 +1,10 @@
 -- What the search for a wrong use of a definition goes by. Internal: no contract of a C function cites it. Definitions only: nothing is assumed.
-use Rattle.std.specs.Prelude.{◌≡◌, Bool, false, not, ◌&&◌, ◌||◌, List, ℕ, zero, suc, ◌<◌, length, get_or, eqb}
+use Rattle.std.specs.Prelude.{◌≡◌, Bool, false, not, ◌&&◌, ◌||◌, List, ℕ, zero, suc, ◌<◌, length, get_or, eqb, Option}
 use Rattle.program.specs.Table.{Table, is_call, node_limit}
 use Rattle.program.specs.Tree.{tree, spatial}
 use Rattle.program.specs.Check.{node_at, use_offends, lowest, offending}
 use Rattle.shapes.specs.Kinds.{fold_by_kind, call_kind}
-use Rattle.operands.specs.Found.{found}
+use Rattle.operands.specs.Found.{place}
 use Rattle.scopes.specs.Places.{Defined}
 
 -- the table that the columns tell: kinds of nodes, the definitions that calls and folds name, parameter counts and bodies of definitions, and which
@@ -36,6 +36,6 @@ pub record CleanBelow (kinds items counts bodies : List ℕ) (sp : List Bool) (c
   pub none : (t : Table) → Columns t kinds items counts bodies sp count → (k : ℕ) → k < n → use_offends t k ≡ false
 
 -- r is the lowest node that offends, in any table that the columns tell
-abbrev pub LowestUse : List ℕ → List ℕ → List ℕ → List ℕ → List Bool → ℕ → ℕ → Type 0
+abbrev pub LowestUse : List ℕ → List ℕ → List ℕ → List ℕ → List Bool → ℕ → Option ℕ → Type 0
 LowestUse kinds items counts bodies sp count r =
-    (t : Table) → Columns t kinds items counts bodies sp count → lowest (offending (use_offends t) (length t.nodes)) ≡ found r
+    (t : Table) → Columns t kinds items counts bodies sp count → lowest (offending (use_offends t) (length t.nodes)) ≡ place r

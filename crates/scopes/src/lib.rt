@@ -1,180 +1,155 @@
 // The lowest node that offends: by a parameter or variable that it may not read, by its use of a definition.
 #![tactic(auto)]
 
-ghost use Rattle.std.specs.Prelude.{◌≡◌, false, ◌||◌, min, ◌<◌, ◌≤◌};
-ghost use Rattle.program.specs.Table.{is_call, node_limit};
+ghost use Rattle.std.specs.Prelude.{◌≡◌, ◌<◌, ◌≤◌};
+ghost use Rattle.program.specs.Table.{node_limit};
 ghost use Rattle.words.specs.Word.{word};
 ghost use Rattle.words.specs.Trees.{tree_at};
-ghost use Rattle.operands.specs.Formed.{part as part_of, AllFormed};
-ghost use Rattle.bits.specs.Bits.{has_bit};
-ghost use Rattle.scopes.specs.Scope.{Lowest, own_place, inner, LowestMisread};
+ghost use Rattle.operands.specs.Found.{place};
+ghost use Rattle.operands.specs.Formed.{part as part_of};
+ghost use Rattle.scopes.specs.Places.{lower};
+ghost use Rattle.scopes.specs.Scope.{Lowest, misreads, own_place, inner, LowestMisread};
 ghost use Rattle.scopes.specs.Uses.{offends, LowestUse};
 
-use operands::{is, operand, width_of};
+use operands::{Words, is};
+use shapes::Kind;
 use unpack::{form_of, item_of};
 
-fn lower(x: u16, y: u16) -> u16
-    ensures { result ≡ min x y }
-{
-    if x < y { x } else { y }
-}
+// The kinds of node that name a definition, the highest but for one.
+const FOLD_BY: u8 = Kind::FoldBy as u8;
 
-fn has_bit(v: u8, m: u16) -> bool
-    requires { v < 16 }
-    ensures { result ≡ has_bit v m }
-{
-    (m >> v) % 2 == 1
-}
+const CALL: u8 = Kind::Call as u8;
 
-// Node n, where its word misreads.
-fn own(n: u16, w: u64, count: u8, scope: u16) -> u16
-    ensures { result ≡ own_place n w count scope }
+// Whether a word reads what it may not, as one of a definition with so many parameters, under the reps of scope.
+#[tactic(auto, unfolding(crate::specs::Scope::misreads))]
+fn misreads(w: u64, count: u8, scope: u16) -> bool
+    ensures { result ≡ misreads w count scope }
 {
     if form_of(w) == unpack::PARAMETER {
-        if item_of(w) < count {
-            return layout::NO_NODE;
-        }
-        return n;
+        count <= item_of(w)
+    } else {
+        is(w, operands::READ) && (scope >> item_of(w)) % 2 == 0
     }
-    if is(w, operands::READ) {
-        if has_bit(item_of(w), scope) {
-            return layout::NO_NODE;
-        }
-        return n;
+}
+
+// The lower of `best` and node n, where its word misreads.
+fn own(ws: Words<'_>, n: usize, count: u8, scope: u16, best: Option<usize>) -> Option<usize>
+    requires { n < node_limit }
+    ensures { place result ≡ lower (own_place n (word ws.entry.all.now n) count scope) (place best) }
+{
+    if misreads(ws.all[n], count, scope) {
+        Some(n.min(best.unwrap_or(n)))
+    } else {
+        best
     }
-    layout::NO_NODE
 }
 
 // The scope of operand 1: the variable that the node binds more.
-fn with_own(w: u64, scope: u16) -> u16
+#[tactic(auto, using(crate::proofs::Walks::low_bit), unfolding(crate::specs::Scope::inner))]
+fn inner(w: u64, scope: u16) -> u16
     ensures { result ≡ inner w scope }
 {
     if is(w, operands::BIND) {
-        let one: u16 = 1;
-        return scope | (one << item_of(w));
+        scope | (1 << item_of(w))
+    } else {
+        scope
     }
-    scope
 }
 
 // Each of the two: the lower of `best` and the lowest node that misreads. Operand 0 comes last, as a call that is a jump; a
 // node that names none is looked at where it is named.
 #[cycle(walking)]
-fn part(ws: &[u64; layout::NODES], n: usize, j: u32, count: u8, scope: u16, best: u16) -> u16
-    requires { (j < 4) × (n < node_limit) × AllFormed ws.now }
-    ensures { Lowest count scope (part_of ws.now (word ws.now n) j) best result }
+fn part(
+    ws: Words<'_>,
+    n: usize,
+    j: u32,
+    count: u8,
+    scope: u16,
+    best: Option<usize>,
+) -> Option<usize>
+    requires { (n < node_limit) × (j < 4) }
+    ensures { Lowest count scope (part_of ws.entry.all.now (word ws.entry.all.now n) j) best result }
 {
-    let w = ws[n];
-    if j < width_of(w) as u32 {
-        let m = operand(w, j);
-        let v = ws[m];
-        if is(v, operands::ALONE) {
-            return lower(own(m as u16, v, count, scope), best);
-        }
-        return walk(ws, m, count, scope, best);
+    let Some(m) = ws.named(n, j) else {
+        return best;
+    };
+    if is(ws.all[m], operands::ALONE) {
+        return own(ws, m, count, scope, best);
     }
-    best
+    walk(ws, m, count, scope, best)
 }
 
 // In the tree of node n. Called definitions are not entered.
 #[cycle(walking)]
-fn walk(ws: &[u64; layout::NODES], n: usize, count: u8, scope: u16, best: u16) -> u16
-    requires { (n < node_limit) × AllFormed ws.now }
-    ensures { Lowest count scope (tree_at ws.now n) best result }
+fn walk(ws: Words<'_>, n: usize, count: u8, scope: u16, best: Option<usize>) -> Option<usize>
+    requires { n < node_limit }
+    ensures { Lowest count scope (tree_at ws.entry.all.now n) best result }
 {
-    let w = ws[n];
-    let r = lower(own(n as u16, w, count, scope), best);
+    let r = own(ws, n, count, scope, best);
     let r = part(ws, n, 3, count, scope, r);
     let r = part(ws, n, 2, count, scope, r);
-    let r = part(ws, n, 1, count, with_own(w, scope), r);
+    let r = part(ws, n, 1, count, inner(ws.all[n], scope), r);
     part(ws, n, 0, count, scope, r)
 }
 
 // The lowest node that misreads, in main's tree and in those of the definitions.
 pub fn misread_lowest(
-    ws: &[u64; layout::NODES],
+    ws: Words<'_>,
     counts: &[u8; layout::NODES],
     bodies: &[u8; layout::NODES],
     definitions: usize,
-    main: u16,
-) -> u16
-    requires { AllFormed ws.now × (definitions ≤ node_limit) × (main < node_limit) }
-    ensures { LowestMisread ws.now counts.now bodies.now definitions main result }
+    main: usize,
+) -> Option<usize>
+    requires { (definitions ≤ node_limit) × (main < node_limit) }
+    ensures { LowestMisread ws.entry.all.now counts.now bodies.now definitions main result }
 {
-    if scope_pass::clean(ws, counts, bodies, definitions, main as usize) {
-        return layout::NO_NODE;
+    if scope_pass::clean(ws, counts, bodies, definitions, main) {
+        return None;
     }
-    let mut r = layout::NO_NODE;
-    let mut d = definitions;
-    while 0 < d {
-        d -= 1;
-        r = walk(ws, wide(bodies[d]), counts[d], 0, r);
+    let mut r = None;
+    for d in 0..definitions {
+        r = walk(ws, usize::from(bodies[d]), counts[d], 0, r);
     }
-    walk(ws, main as usize, 0, 0, r)
+    walk(ws, main, 0, 0, r)
 }
 
-fn offends_by(kind: u8, spatial: bool, called: bool, count: u8) -> bool
+// Whether a node of a kind offends by its use of a definition: a spatial one that a lower node calls already, a fold by a
+// spatial one or one without two parameters.
+#[tactic(auto, unfolding(crate::specs::Uses::offends))]
+fn offends(kind: u8, spatial: bool, called: bool, count: u8) -> bool
     ensures { result ≡ offends kind spatial called count }
 {
-    if kind == shapes::CALL {
-        if spatial {
-            return called;
-        }
-        return false;
+    if kind == CALL {
+        spatial && called
+    } else {
+        kind == FOLD_BY && (spatial || count != 2)
     }
-    if kind == shapes::FOLD_BY {
-        if spatial {
-            return true;
-        }
-        return count != 2;
-    }
-    false
 }
 
-fn or_call(called: bool, kind: u8) -> bool
-    ensures { result ≡ (called || is_call kind) }
-{
-    if called {
-        return true;
-    }
-    kind == shapes::CALL
-}
-
-fn wide(x: u8) -> usize
-    ensures { (result ≡ x) × (result < node_limit) }
-{
-    x as usize
-}
-
-// The lowest node that offends by its use of a definition: a spatial one that a lower node calls already, a fold by a
-// spatial one or one without two parameters.
+// The lowest node that offends by its use of a definition.
 pub fn use_offends(
     kinds: &[u8; layout::NODES],
     items: &[u8; layout::NODES],
     counts: &[u8; layout::NODES],
     bodies: &[u8; layout::NODES],
     sp: &[bool; layout::NODES],
-    count: u16,
-) -> u16
+    count: usize,
+) -> Option<usize>
     requires { count ≤ node_limit }
     ensures { LowestUse kinds.now items.now counts.now bodies.now sp.now count result }
 {
-    let no = false;
-    let mut called = [no; layout::NODES];
-    let mut n: u16 = 0;
-    while n < count {
-        let i = n as usize;
-        let kind = kinds[i];
-        if kind < shapes::FOLD_BY {
-            n += 1;
+    let mut called = [false; layout::NODES];
+    for n in 0..count {
+        let kind = kinds[n];
+        if kind < FOLD_BY {
             continue;
         }
-        let d = wide(items[i]);
-        let b = wide(bodies[d]);
-        if offends_by(kind, sp[b], called[d], counts[d]) {
-            return n;
+        let d = usize::from(items[n]);
+        let b = usize::from(bodies[d]);
+        if offends(kind, sp[b], called[d], counts[d]) {
+            return Some(n);
         }
-        called[d] = or_call(called[d], kind);
-        n += 1;
+        called[d] |= kind == CALL;
     }
-    layout::NO_NODE
+    None
 }

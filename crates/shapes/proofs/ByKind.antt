@@ -1,9 +1,12 @@
 -- What holds of each kind holds of all; and what of each first item. Assumes nothing.
-use mathlib.Core.Path.{◌≡◌}
-use Prim.Native.Nat.{ℕ, zero, suc, ◌≤◌, ◌<◌}
+use mathlib.Core.Path.{◌≡◌, refl}
+use Prim.Native.Nat.{ℕ, zero, suc, ◌<◌}
 use native.Mathlib.Omega.{arith}
 use Rattle.program.specs.Table.{kind_count}
 use Rattle.shapes.specs.Kinds.{constant_kind, parameter_kind, variable_kind, operator_kind, sense_kind, rep_kind, if_kind, mux_kind, nbr_kind, range_kind, fold_kind, fold_by_kind, call_kind, lag_kind}
+use Rattle.shapes.specs.Kinds.{number_of, kind_at}
+use Rattle.shapes.specs.declared.Kind.{Kind}
+use Rattle.shapes.specs.declared.Kind.TheVariants.{Constant, Parameter, Variable, Operator, Sense, Rep, If, Mux, Nbr, Range, Fold, FoldBy, Call, Lag}
 use Rattle.shapes.specs.Shapes.{no_item, operator_item, parameter_item, variable_item, kept_item, slot_item, constant_item, definition_item, item_count}
 
 pub record ByKind (P : ℕ → Type 0) : Type 0 where
@@ -39,9 +42,59 @@ by_kind r (suc (suc (suc (suc (suc (suc (suc (suc (suc (suc (suc (suc zero))))))
 by_kind r (suc (suc (suc (suc (suc (suc (suc (suc (suc (suc (suc (suc (suc zero))))))))))))) h = r.lag
 by_kind r (suc (suc (suc (suc (suc (suc (suc (suc (suc (suc (suc (suc (suc (suc k)))))))))))))) h = absurd (omega arith)
 
--- a kind that is not j, where it is none below
-pub past : {j k : ℕ} → j ≤ k → (k ≡ j → ⊥) → suc j ≤ k
-past h z = omega arith
+-- a kind's number, and the kind of a number
+pub kind-known : (k : Kind) → number_of k < kind_count
+kind-known Constant = omega arith
+kind-known Parameter = omega arith
+kind-known Variable = omega arith
+kind-known Operator = omega arith
+kind-known Sense = omega arith
+kind-known Rep = omega arith
+kind-known If = omega arith
+kind-known Mux = omega arith
+kind-known Nbr = omega arith
+kind-known Range = omega arith
+kind-known Fold = omega arith
+kind-known FoldBy = omega arith
+kind-known Call = omega arith
+kind-known Lag = omega arith
+
+pub kind-of-number : (k : Kind) → kind_at (number_of k) ≡ k
+kind-of-number Constant = refl
+kind-of-number Parameter = refl
+kind-of-number Variable = refl
+kind-of-number Operator = refl
+kind-of-number Sense = refl
+kind-of-number Rep = refl
+kind-of-number If = refl
+kind-of-number Mux = refl
+kind-of-number Nbr = refl
+kind-of-number Range = refl
+kind-of-number Fold = refl
+kind-of-number FoldBy = refl
+kind-of-number Call = refl
+kind-of-number Lag = refl
+
+pub number-of-kind : (k : ℕ) → k < kind_count → number_of (kind_at k) ≡ k
+number-of-kind k h =
+    by_kind {P = λ k. number_of (kind_at k) ≡ k}
+    record {
+      constant = refl;
+      parameter = refl;
+      variable = refl;
+      operator = refl;
+      sense = refl;
+      rep = refl;
+      if_then = refl;
+      mux = refl;
+      nbr = refl;
+      range = refl;
+      fold = refl;
+      fold_by = refl;
+      call = refl;
+      lag = refl;
+    }
+    k h
 
 pub record ByItem (P : ℕ → Type 0) : Type 0 where
   pub none : P no_item

@@ -5,15 +5,21 @@ use mathlib.Core.List.{List, [], ◌∷◌}
 use Prim.Native.Nat.{ℕ, ◌*◌, ◌≤◌}
 use native.Mathlib.Omega.{arith}
 use lib.Dec.{eqb, leb}
-use lib.ListN.{length}
-use lib.IntN.{ℤ}
+use lib.ListN.{length, replicate, length-replicate}
+use lib.IntN.{ℤ, pos}
 use borrow.Author.Tests.{eqb-true, eqb-false, leb-true, ne_eqb, eq-eqb}
-use Rattle.verdict.specs.declared.Verdict as coded
 use Rattle.program.specs.Check.{Verdict}
 use Rattle.network.specs.Network.{network_size, fresh, fresh_call}
-use Rattle.event.specs.Event.{Read, read_list, entries_of}
+use Rattle.event.specs.Event.{Read, entries, refused_at, read_list, entries_of, list_verdict}
 use Rattle.event.specs.Calls.{answer_width, Result, first_refusal, tests, carried_out, run}
-use Rattle.calls.specs.Carried.{result_of}
+use Rattle.std.specs.Prelude.{Ok, Err, IfOk, IfErr}
+use Rattle.std.specs.Prelude.{Result as Res}
+use Rattle.verdict.specs.Outcome.{number_of, refusal_at}
+use Rattle.verdict.specs.declared.Refusal.{Refusal}
+use Rattle.verdict.specs.declared.Reason.{Reason}
+use Rattle.verdict.specs.declared.Reason.TheVariants.{BadField, TooMany, OutOfRange, NotGiven, Taken, BadEnd, WrongSort, Misread, Misused, TooCostly, Unsound, BadList, ShortSpace, BadItem, Itself, NothingPending}
+use Rattle.verdict.specs.declared.Reason.TheVariants.{DividedByZero, BadFile, Outside, BadName}
+use Rattle.lists.specs.Listed.{count_of}
 use Rattle.lines.specs.Text.{lines, refused_line}
 use Rattle.shift.specs.Replayed.{blank, outcome, printed, replayed}
 
@@ -56,23 +62,88 @@ roomy : (b : Bool) → (cond {A = ℕ × ℕ} b (0, 0) (13, 0)).0 ≡ 0 → b �
 roomy true h = refl
 roomy false h = absurd (omega arith)
 
-module _ (program list : List ℕ) (v : coded.Verdict) (net space : List ℤ) (ran : result_of v net space ≡ outcome program list) where
+numbered : (r : Reason) → number_of r ≡ 0 → ⊥
+numbered BadField h = cc
+numbered TooMany h = cc
+numbered OutOfRange h = cc
+numbered NotGiven h = cc
+numbered Taken h = cc
+numbered BadEnd h = cc
+numbered WrongSort h = cc
+numbered Misread h = cc
+numbered Misused h = cc
+numbered TooCostly h = cc
+numbered Unsound h = cc
+numbered BadList h = cc
+numbered ShortSpace h = cc
+numbered BadItem h = cc
+numbered Itself h = cc
+numbered NothingPending h = cc
+numbered DividedByZero h = cc
+numbered BadFile h = cc
+numbered Outside h = cc
+numbered BadName h = cc
+
+of_count : (q : Read) (k : ℕ) → Ok k ≡ count_of q → k ≡ length (entries_of q)
+of_count (entries l) k e = cc
+of_count (refused_at n) k e = cc
+
+not_refused : (q : Read) (x : Refusal) → Err x ≡ count_of q → (list_verdict q).0 ≡ 0 → ⊥
+not_refused (entries l) x e h = cc
+not_refused (refused_at n) x e h = cc
+
+-- what a run from a fresh network came to: its verdict v, the network and the space that it left
+module _ (program list : List ℕ) {f v : Verdict} {net network space : List ℤ} (start : (f, net) ≡ fresh_call (replicate network_size (pos 0)))
+    (end : record { verdict = v; network = network; space = space } ≡ run program net list blank) where
   n : ℕ
   n = length (entries_of (read_list list))
 
-  pub turned : (v.number ≡ 0 → ⊥) → refused_line v.number v.place ≡ replayed program list
-  unfolding replayed n
-  turned h = ap (λ (b : Bool). cond b (lines 0 n space) (refused_line v.number v.place)) (sym (ne_eqb v.number 0 h)) ∙ ap (printed n) ran
+  ran : record { verdict = v; network = network; space = space } ≡ outcome program list
+  unfolding outcome
+  ran = end ∙ ap (λ (m : List ℤ). run program m list blank) (made (replicate network_size (pos 0)) net f (length-replicate network_size (pos 0)) start)
 
-  pub done : (k : ℕ) → k ≡ length (entries_of (read_list list)) → v.number ≡ 0 → lines 0 k space ≡ replayed program list
+  pub turned : (v.0 ≡ 0 → ⊥) → refused_line v.0 v.1 ≡ replayed program list
   unfolding replayed n
-  done k e h =
+  turned h = ap (λ (b : Bool). cond b (lines 0 n space) (refused_line v.0 v.1)) (sym (ne_eqb v.0 0 h)) ∙ ap (printed n) ran
+
+  pub done : {k : ℕ} → k ≡ length (entries_of (read_list list)) → v.0 ≡ 0 → lines 0 k space ≡ replayed program list
+  unfolding replayed n
+  done e h =
       ap (λ (m : ℕ). lines 0 m space) e
-      ∙ ap (λ (b : Bool). cond b (lines 0 n space) (refused_line v.number v.place)) (sym (eq-eqb v.number 0 h)) ∙ ap (printed n) ran
+      ∙ ap (λ (b : Bool). cond b (lines 0 n space) (refused_line v.0 v.1)) (sym (eq-eqb v.0 0 h)) ∙ ap (printed n) ran
 
-  pub fits : (k : ℕ) → k ≡ length (entries_of (read_list list)) → v.number ≡ 0 → answer_width * k ≤ length blank
+  pub fits : {k : ℕ} → k ≡ length (entries_of (read_list list)) → v.0 ≡ 0 → answer_width * k ≤ length blank
   unfolding outcome run tests
-  fits k e h =
+  fits e h =
       let q = tested program fresh (read_list list) blank (sym (ap (λ (r : Result). r.verdict.0) ran) ∙ h) in
       let m = roomy (leb (answer_width * length (entries_of (read_list list))) (length blank)) (last _ (passed _ _ (passed _ _ (passed _ _ q)))) in
       omega (arith, leb-true (answer_width * length (entries_of (read_list list))) (length blank) m)
+
+  head_passed : (w : Verdict) (vs : List Verdict) → (first_refusal (w ∷ vs)).0 ≡ 0 → w.0 ≡ 0
+  unfolding first_refusal
+  head_passed w vs h = go (eqb w.0 0) refl h
+    where
+      go : (b : Bool) → eqb w.0 0 ≡ b → (cond b (first_refusal vs) w).0 ≡ 0 → w.0 ≡ 0
+      go true e q = eqb-true w.0 0 e
+      go false e q = q
+
+  listed : v.0 ≡ 0 → (list_verdict (read_list list)).0 ≡ 0
+  unfolding outcome run tests
+  listed h =
+      let q = tested program fresh (read_list list) blank (sym (ap (λ (r : Result). r.verdict.0) ran) ∙ h) in
+      head_passed _ _ (passed _ _ (passed _ _ q))
+
+  pub refusal : (e : Refusal) → v ≡ refusal_at e → refused_line (number_of e.reason) e.place ≡ replayed program list
+  refusal e p = rw p at (turned (λ h. numbered e.reason (ap (λ (w : Verdict). w.0) (sym p) ∙ h)))
+
+  pub answers : (r : Res ℕ Refusal) → r ≡ count_of (read_list list) → v.0 ≡ 0 → IfOk r (λ k. lines 0 k space ≡ replayed program list)
+  answers (Ok k) e h = done (of_count (read_list list) k e) h
+  answers (Err x) e h = tt
+
+  pub room_for : (m : ℕ) (r : Res ℕ Refusal) → r ≡ count_of (read_list list) → v.0 ≡ 0 → m ≡ length blank → IfOk r (λ k. answer_width * k ≤ m)
+  room_for m (Ok k) e h q = rw q (fits (of_count (read_list list) k e) h)
+  room_for m (Err x) e h q = tt
+
+  pub no_refusal : (P : Refusal → Type 0) (r : Res ℕ Refusal) → r ≡ count_of (read_list list) → v.0 ≡ 0 → IfErr r P
+  no_refusal P (Ok k) e h = tt
+  no_refusal P (Err x) e h = absurd (not_refused (read_list list) x e (listed h))

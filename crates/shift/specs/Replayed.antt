@@ -3,7 +3,7 @@ use Rattle.std.specs.Prelude.{cond, List, ℕ, ◌*◌, ◌/◌, eqb, length, re
 use Rattle.network.specs.Network.{fresh}
 use Rattle.event.specs.Event.{read_list, entries_of}
 use Rattle.event.specs.Calls.{answer_width, Result, run}
-use Rattle.lines.specs.Text.{line_room, lines, refused_line}
+use Rattle.lines.specs.Text.{lines, refused_line}
 
 -- bytes of a file, and events in it, at the most: an event takes 4 bytes or more
 abbrev pub file_size : ℕ
@@ -12,12 +12,9 @@ file_size = 4096
 abbrev pub most_events : ℕ
 most_events = file_size / 4
 
--- room for their answers, and for their lines
+-- room for their answers
 abbrev pub blank : List ℤ
 blank = replicate (answer_width * most_events) (pos 0)
-
-abbrev pub text_room : ℕ
-text_room = line_room * most_events
 
 -- "starts fresh"
 unfoldable pub outcome : List ℕ → List ℕ → Result

@@ -1,27 +1,45 @@
 // A shift replayed: the text that a program and a list of events print, from a fresh network.
 #![tactic(auto)]
 
-ghost use Rattle.std.specs.Prelude.{◌≤◌, length};
-ghost use Rattle.lines.specs.Text.{Begins};
-ghost use Rattle.shift.specs.Replayed.{text_room, replayed};
+ghost use Rattle.std.specs.Prelude.{◌≡◌, ◌*◌, ◌≤◌, length, IfOk, IfErr};
+ghost use Rattle.verdict.specs.Outcome.{number_of};
+ghost use Rattle.event.specs.Calls.{answer_width};
+ghost use Rattle.lines.specs.Text.{lines, refused_line};
+ghost use Rattle.shift.specs.Replayed.{blank, replayed};
+
+use arrayvec::ArrayString;
+use verdict::Refusal;
 
 // Two numbers for each event that a file can have, and a line.
 const ANSWERS: usize = layout::ANSWER * layout::EVENTS;
 
 pub const ROOM: usize = layout::LINE * layout::EVENTS;
 
-// Puts what the replay prints at the start of the buffer: how many bytes it has.
-pub fn replayed(program: &[u8], list: &[u8], out: &mut [u8]) -> usize
-    requires { text_room ≤ length out.old }
-    ensures { Begins out.new result (replayed program.now list.now) }
+// What the replay prints.
+pub type Text = ArrayString<ROOM>;
+
+// Runs the list on a fresh network: how many events there are, whose answers then stand at the start of the space.
+fn carry_out(program: &[u8], list: &[u8], space: &mut [i32]) -> Result<usize, Refusal>
+    requires { space.old ≡ blank }
+    ensures room { IfOk result (λ n. answer_width * n ≤ length space.new) }
+    ensures answers { IfOk result (λ n. lines 0 n space.new ≡ replayed program.now list.now) }
+    ensures refusal { IfErr result (λ r. refused_line (number_of r.reason) r.place ≡ replayed program.now list.now) }
 {
     let mut network = [0; layout::CELLS];
-    fresh::fresh(&mut network);
+    let _ = fresh::fresh(&mut network); // it is as long as a network
+    calls::run(program, &mut network, list, space)?;
+    lists::count_events(list)
+}
+
+// The text of a program and a list.
+pub fn replayed(program: &[u8], list: &[u8]) -> Text
+    ensures { result.bytes ≡ replayed program.now list.now }
+{
+    let mut text = Text::new();
     let mut space = [0; ANSWERS];
-    let v = calls::run(program, &mut network, list, &mut space);
-    if v.number != 0 {
-        return lines::put_refused(v.number as u64, v.place as u64, out);
+    match carry_out(program, list, &mut space) {
+        Ok(events) => lines::put_lines(&space, events, &mut text),
+        Err(refusal) => lines::put_refused(refusal, &mut text),
     }
-    let counted = lists::count_events(list);
-    lines::put_lines(&space, counted.events, out)
+    text
 }

@@ -1,18 +1,19 @@
 -- What a node's note is, from those of the nodes that it names. Assumes nothing.
 use mathlib.Core.Path.{◌≡◌, refl, sym, ◌∙◌}
-use mathlib.Core.Bool.{Bool, true, false, cond, ◌||◌, or_assoc, or-false}
+use mathlib.Core.Bool.{Bool, true, false, cond, ◌&&◌, ◌||◌, or_assoc, or-false}
 use mathlib.Core.List.{List}
 use Prim.Native.Nat.{ℕ, ◌+◌, ◌<◌}
 use native.Mathlib.Omega.{arith}
-use lib.ListN.{get_or, set, length-set}
+use lib.ListN.{length, get_or, set, length-set}
 use lib.Dec.{eqb, ltb}
+use borrow.Author.Count.{below_none}
 use borrow.Author.Tests.{eqb-true, ltb-true}
 use Rattle.program.specs.Table.{node_limit}
 use Rattle.program.specs.Tree.{Expr, nothing, spatial}
 use Rattle.words.specs.Form.{call_form}
 use Rattle.words.specs.Word.{form, word}
 use Rattle.words.specs.Trees.{tree_at}
-use Rattle.operands.specs.Formed.{width, operand, is_spatial, part, part_note, Formed}
+use Rattle.operands.specs.Formed.{width, operand, is_spatial, part, part_note, body_note, Formed}
 use Rattle.operands.proofs.Below.{set_more}
 use Rattle.operands.proofs.Views.{View, is-constant, is-parameter, is-variable, is-operator, is-sense, is-rep, is-if, is-mux, is-fold-by, is_call, is-fold, is-nbr, is-range, is-lag, is-field-if}
 use Rattle.operands.proofs.Views.{is-field-operator, view}
@@ -52,17 +53,20 @@ module _ {ws : List ℕ} {sp : List Bool} {n : ℕ} (f : Formed ws n) (m : Spati
   part-note : (j : ℕ) → j < 4 → part_note false sp (word ws n) j ≡ spatial (part ws (word ws n) j)
   part-note j h = named-note (ltb j (width (word ws n))) (operand (word ws n) j) (λ e. f.operands j h (ltb-true j (width (word ws n)) e))
 
+  call-note : eqb (form (word ws n)) call_form && body_note false sp (word ws n) ≡ spatial (called_tree ws (word ws n))
+  unfolding spatial
+  call-note = go (eqb (form (word ws n)) call_form) refl
+    where
+      go : (b : Bool) → eqb (form (word ws n)) call_form ≡ b → b && body_note false sp (word ws n) ≡ spatial (cond b (tree_at ws (operand (word ws n) 4)) nothing)
+      go true e = let h : form (word ws n) ≡ call_form = eqb-true (form (word ws n)) call_form e in rw h (m.note (operand (word ws n) 4) (f.calls h))
+      go false e = refl
+
   pub spatial-note : spatial_of sp (word ws n) ≡ spatial (tree_at ws n)
   unfolding spatial_of
-  spatial-note =
-      rw (
-        named-note (eqb (form (word ws n)) call_form) (operand (word ws n) 4) (λ e. f.calls (eqb-true (form (word ws n)) call_form e)),
-        part-note 0 (omega arith),
-        part-note 1 (omega arith),
-        part-note 2 (omega arith),
-        part-note 3 (omega arith),
-      )
-      (sym (all-spatial (view f)))
+  spatial-note = rw (call-note, part-note 0 (omega arith), part-note 1 (omega arith), part-note 2 (omega arith), part-note 3 (omega arith)) (sym (all-spatial (view f)))
+
+pub spatials-none : {ws : List ℕ} {sp : List Bool} → length sp ≡ node_limit → Spatials ws sp 0
+spatials-none e = record { long = e; note = below_none _ }
 
 pub spatials-more : {ws : List ℕ} {sp : List Bool} {n : ℕ} {m : Bool} → n < node_limit → Formed ws n → Spatials ws sp n → m ≡ spatial_of sp (word ws n)
     → Spatials ws (set sp n m) (n + 1)

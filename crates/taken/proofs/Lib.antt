@@ -1,4 +1,2 @@
-pub mod Walk
-pub mod InTurn
-pub mod Kids
 pub mod Agree
+pub mod Walk

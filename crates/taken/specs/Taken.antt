@@ -1,7 +1,14 @@
 -- Flags of numbers that are taken, near the code. Internal: `proofs/Agree.antt` proves that they say what program's lists of numbers say.
-use Rattle.std.specs.Prelude.{◌≡◌, Bool, true, false, not, cond, ◌&&◌, ◌||◌, List, [], ◌∷◌, ℕ, zero, suc, length, get_or, set}
+use Rattle.std.specs.Prelude.{◌≡◌, Bool, true, false, not, cond, ◌||◌, List, [], ◌∷◌, ℕ, zero, suc, length, get_or, set, Result, Ok, Err}
 use Rattle.shapes.specs.Shapes.{byte_values}
-use Rattle.program.specs.Table.{beyond, node_limit}
+use Rattle.verdict.specs.declared.Reason.{Reason}
+use Rattle.verdict.specs.Outcome.{number_of}
+use Rattle.program.specs.Table.{beyond}
+
+-- the number of a refusal, 0 where there is none
+abbrev pub code : {A : Type 0} → Result A Reason → ℕ
+code (Ok x) = 0
+code (Err e) = number_of e
 
 -- some number is taken or stands twice
 unfoldable pub taken_in : List Bool → List ℕ → Bool
@@ -20,19 +27,13 @@ unfoldable pub untaken : ℕ → List Bool → Bool
 untaken zero m = false
 untaken (suc k) m = not (get_or m k false) || untaken k m
 
--- a number k that is there, a byte, is looked for and taken: r says whether it was taken, and m' are the flags where it was not
-pub record Takes (there : Bool) (k : ℕ) (m : List Bool) (r : Bool) (m' : List Bool) : Type 0 where
-  pub was : r ≡ (there && get_or m k false)
-  pub after : r ≡ false → m' ≡ take_if there k m
+-- a number, a byte, is looked for and taken: r is the refusal, and m' are the flags where there is none
+pub record Takes (k : ℕ) (m : List Bool) (r : Result Unit Reason) (m' : List Bool) : Type 0 where
+  pub number : code r ≡ cond (get_or m k false) 5 0
+  pub after : code r ≡ 0 → m' ≡ set m k true
   pub long : length m' ≡ byte_values
 
--- the same of nodes one after the other
-pub record TakesAll (ks : List ℕ) (m : List Bool) (r : Bool) (m' : List Bool) : Type 0 where
-  pub was : r ≡ taken_in m ks
-  pub after : r ≡ false → m' ≡ with_taken m ks
-  pub long : length m' ≡ node_limit
-
 -- children that are looked for among n nodes and taken: r is the refusal, and named' are the flags where there is none
-pub record TakesKids (ks : List ℕ) (n : ℕ) (named : List Bool) (r : ℕ) (named' : List Bool) : Type 0 where
-  pub number : r ≡ cond (beyond n ks) 4 (cond (taken_in named ks) 5 0)
-  pub after : r ≡ 0 → named' ≡ with_taken named ks
+pub record TakesKids (ks : List ℕ) (n : ℕ) (named : List Bool) (r : Result Unit Reason) (named' : List Bool) : Type 0 where
+  pub number : code r ≡ cond (beyond n ks) 4 (cond (taken_in named ks) 5 0)
+  pub after : code r ≡ 0 → named' ≡ with_taken named ks

@@ -1,63 +1,55 @@
--- the turns of the loop that counts heads.
-use mathlib.Core.Path.{◌≡◌, sym, ap, ◌∙◌}
-use mathlib.Core.Bool.{Bool, true, false, cond, ◌&&◌}
-use mathlib.Core.List.{List, [], ◌∷◌}
-use Prim.Native.Nat.{ℕ, ◌+◌, ◌≤◌, ◌<◌}
-use native.Mathlib.Omega.{arith}
-use lib.Dec.{eqb}
-use lib.ListN.{length, drop}
-use lib.Seq.{drop-length}
-use Rattle.notation.specs.Words.{between}
+-- The turns of the loop that counts tokens, and what the tests count.
+use Rattle.std.specs.Prelude.{◌≡◌, Bool, true, false, cond, ◌&&◌, Some, None, List, [], ◌∷◌, ◌++◌, ℕ, ◌+◌, ◌≤◌, eqb, ltb, length, drop}
+use Rattle.std.proofs.Common.{refl, sym, ap, ◌∙◌, arith}
+use Rattle.std.proofs.lemmas.Bool.{lt-ltb}
+use Rattle.notation.specs.Grammar.{Token, opening, closing, word}
 use Rattle.notation.proofs.Lexing.{lex}
 use Rattle.lexemes.specs.declared.Lexeme.{Lexeme}
-use Rattle.lexemes.specs.Lexeme.{next_lexeme, token_by}
-use Rattle.lexemes.proofs.Laws.{next-within, next-end, next-token}
-use Rattle.vocabulary.specs.Codes.{token_code}
-use Rattle.token_scans.specs.Scan.{mode_after, heads_in}
-use Rattle.token_scans.specs.Sought.{Counted}
+use Rattle.lexemes.specs.Lexeme.{next_lexeme, token_of}
+use Rattle.lexemes.proofs.Laws.{next-end, next-token}
+use Rattle.vocabulary.specs.Codes.{code_of, token_code}
+use Rattle.vocabulary.proofs.Laws.{code-limit}
+use Rattle.token_scans.specs.Scan.{mode_after, word_in, words_in, heads_in}
+use Rattle.token_scans.specs.Sought.{counted}
 
-pub record Counting (f : ℕ → Bool) (e : List ℕ) (at m n : ℕ) : Type 0 where
-  pub within : at ≤ length e
-  pub passed : n ≤ at
-  pub same : heads_in f 0 (lex e) ≡ n + heads_in f m (lex (drop at e))
+-- n were counted of the tokens before the place
+pub record Counting (f : ℕ → ℕ → Bool) (e : List ℕ) (at m n : ℕ) : Type 0 where
+  pub same : counted f 0 (lex e) ≡ n + counted f m (lex (drop at e))
 
-pub counting-first : (f : ℕ → Bool) (e : List ℕ) → Counting f e 0 0 0
-counting-first f e = record { within = omega arith; passed = omega arith; same = omega arith }
+pub counting-first : (f : ℕ → ℕ → Bool) (e : List ℕ) → Counting f e 0 0 0
+counting-first f e = record { same = omega arith }
 
-module _ {f : ℕ → Bool} {e : List ℕ} {at m n : ℕ} (g : Counting f e at m n) where
-  ended : lex (drop at e) ≡ [] → Counted f e n
-  unfolding heads_in
-  ended q = record { same = sym (g.same ∙ rw q (omega arith)); few = omega (arith, g.passed, g.within) }
+module _ {f : ℕ → ℕ → Bool} {e : List ℕ} {at m n : ℕ} (h : at ≤ length e) (g : Counting f e at m n) where
+  pub counting-end : next_lexeme e at ≡ None → n ≡ counted f 0 (lex e)
+  unfolding counted
+  counting-end q = sym (g.same ∙ rw (next-end e at h q) (omega arith))
 
-  pub counting-end : length e ≤ at → Counted f e n
-  counting-end h = let z : at ≡ length e = omega (arith, g.within) in ended (rw (z, drop-length e))
+  pub counting-next : (r : Lexeme) → next_lexeme e at ≡ Some r → (c m' i : ℕ) → c ≡ token_code (token_of e r) → m' ≡ mode_after m c → i ≡ cond (f m c) 1 0 → Counting f e r.end m' (n + i)
+  unfolding counted
+  counting-next r q c m' i u v w = record { same = g.same ∙ rw (next-token e at h r q, v, w, u) (omega arith) }
 
-  module _ (r : Lexeme) (q : r ≡ next_lexeme e at) where
-    pub counting-none : r.kind ≡ 0 → Counted f e n
-    counting-none z = ended (next-end e at g.within (sym (ap (λ (l : Lexeme). l.kind) q) ∙ z))
+-- ---- what the tests count
+pub heads-counted : (f : ℕ → Bool) (m : ℕ) (ts : List Token) → counted (λ m c. eqb m 1 && f c) m ts ≡ heads_in f m ts
+unfolding counted heads_in
+heads-counted f m [] = refl
+heads-counted f m (t ∷ ts) = ap (λ (n : ℕ). cond (eqb m 1 && f (token_code t)) 1 0 + n) (heads-counted f (mode_after m (token_code t)) ts)
 
-    pub counting-within : (r.start ≤ r.end) × (r.end ≤ length e)
-    counting-within = let b = next-within e at g.within in rw q (b.ordered, b.inside)
-
-    module _ (is : r.kind ≡ 0 → ⊥) where
-      some_next : (next_lexeme e at).kind ≡ 0 → ⊥
-      some_next z = is (ap (λ (l : Lexeme). l.kind) q ∙ z)
-
-      pub counting-less : at < r.end
-      counting-less = let b = next-within e at g.within in rw q (omega (arith, b.behind, b.some some_next))
-
-      here : lex (drop at e) ≡ token_by r.kind (between r.start r.end e) ∷ lex (drop r.end e)
-      here = rw q (next-token e at g.within some_next)
-
-      -- c is the token's code, h what it counts
-      pub counting-next : (c h m' : ℕ) → c ≡ token_code (token_by r.kind (between r.start r.end e)) → h ≡ cond (eqb m 1 && f c) 1 0 → m' ≡ mode_after m c → Counting f e r.end m' (n + h)
-      unfolding heads_in
-      counting-next c h m' u v w = record {
-        within = counting-within.1;
-        passed = omega (arith, g.passed, counting-less, at_most (eqb m 1 && f c), v);
-        same = g.same ∙ rw (here, w, v, u) (omega arith);
-      }
-        where
-          at_most : (b : Bool) → cond b 1 0 ≤ 1
-          at_most true = omega arith
-          at_most false = omega arith
+pub words-counted : (k m : ℕ) (ts : List Token) → counted (λ m c. eqb m k && ltb c 22) m ts ≡ length (words_in k m ts)
+unfolding counted words_in
+words-counted k m [] = refl
+words-counted k m (opening ∷ ts) = rw (words-counted k (mode_after m 22) ts) (go (eqb m k))
+  where
+    go : (b : Bool) → cond (b && false) 1 0 + length (words_in k (mode_after m 22) ts) ≡ length (words_in k (mode_after m 22) ts)
+    go true = omega arith
+    go false = omega arith
+words-counted k m (closing ∷ ts) = rw (words-counted k (mode_after m 23) ts) (go (eqb m k))
+  where
+    go : (b : Bool) → cond (b && false) 1 0 + length (words_in k (mode_after m 23) ts) ≡ length (words_in k (mode_after m 23) ts)
+    go true = omega arith
+    go false = omega arith
+words-counted k m (word w ∷ ts) =
+    rw (words-counted k (mode_after m (code_of w)) ts, lt-ltb (code_of w) 22 (let l = code-limit w in omega arith)) (go (eqb m k))
+  where
+    go : (b : Bool) → cond (b && true) 1 0 + length (words_in k (mode_after m (code_of w)) ts) ≡ length (word_in b (word w) ++ words_in k (mode_after m (code_of w)) ts)
+    go true = omega arith
+    go false = omega arith

@@ -2,8 +2,9 @@
 use mathlib.Core.Path.{◌≡◌, refl, sym, ap, ◌∙◌}
 use mathlib.Core.Bool.{Bool, true, false, cond}
 use mathlib.Core.List.{List, [], ◌∷◌, ◌++◌, append_assoc, append_cancel_left}
+use Rattle.std.specs.Prelude.{Some}
 use mathlib.Core.Logic.{inl, inr}
-use Prim.Native.Nat.{ℕ, zero, suc, ◌+◌, ◌-◌, ◌≤◌, ◌<◌}
+use Prim.Native.Nat.{ℕ, zero, suc, ◌+◌, ◌-◌, ◌≤◌}
 use native.Mathlib.Omega.{arith}
 use lib.Dec.{eqb}
 use lib.ListN.{length, take, drop}
@@ -15,7 +16,7 @@ use Rattle.notation.specs.Text.{Apart}
 use Rattle.notation.proofs.Lexing.{lex}
 use Rattle.lexemes.specs.declared.Lexeme.{Lexeme}
 use Rattle.lexemes.specs.Lexeme.{next_lexeme, token_of, Parted}
-use Rattle.lexemes.proofs.Laws.{parted-first, parted-splits, next-within, next-token, next-before, next-parted, next-parted-end, next-prefix}
+use Rattle.lexemes.proofs.Laws.{Behind, parted-first, parted-splits, next-within, next-token, next-before, next-parted, next-parted-end, next-prefix}
 use Rattle.notation.proofs.Between.{between-empty, drop-take}
 
 -- ---- where a text is cut, its tokens are
@@ -43,35 +44,33 @@ pub record Cut (s : List ℕ) (top at d : ℕ) : Type 0 where
 pub cut-first : (s : List ℕ) → Cut s 0 0 0
 cut-first s = record { within = omega arith; begun = omega arith; deep = omega arith; cut_top = parted-first s; cut_here = parted-first s }
 
-module _ (s : List ℕ) (top at d : ℕ) (g : Cut s top at d) (r : Lexeme) (e : r ≡ next_lexeme s at) where
-  pub cut-within : (at ≤ r.start) × (r.start ≤ r.end) × (r.end ≤ length s)
-  cut-within = let b = next-within s at g.within in rw e (b.behind, b.ordered, b.inside)
+-- r is the next token, and the form around it begins at top'
+module _ (s : List ℕ) (top at d : ℕ) (g : Cut s top at d) (r : Lexeme) (e : next_lexeme s at ≡ Some r) where
+  pub cut-within : Behind s at r
+  cut-within = next-within s at g.within r e
 
-  -- the form around the token begins at top'
-  module _ (is : r.kind ≡ 0 → ⊥) (top' : ℕ) (t : top' ≡ cond (eqb d 0) r.start top) where
-    pub some_next : (next_lexeme s at).kind ≡ 0 → ⊥
-    some_next z = is (ap (λ (l : Lexeme). l.kind) e ∙ z)
-
-    pub cut-less : at < r.end
-    cut-less = let b = next-within s at g.within in rw e (omega (arith, b.behind, b.some some_next))
-
+  module _ (top' : ℕ) (t : top' ≡ cond (eqb d 0) r.start top) where
     abbrev token : Token
     token = token_of s r
 
     cut-start : Parted s r.start
-    cut-start = rw e (next-parted s at g.within g.cut_here)
+    cut-start = next-parted s at g.within r e g.cut_here
 
-    pub to_start : lex (take r.start s) ≡ lex (take at s)
-    to_start = rw e (next-before s at g.within)
+    to_start : lex (take r.start s) ≡ lex (take at s)
+    to_start = next-before s at g.within r e
+
+    pub to-end-from : lex (take r.end s) ≡ lex (take at s) ++ token ∷ []
+    to-end-from = next-prefix s at g.within r e g.cut_here
 
     to_end : lex (take r.end s) ≡ lex (take r.start s) ++ token ∷ []
-    to_end = rw to_start (rw e (next-prefix s at g.within g.cut_here some_next))
+    to_end = rw to_start to-end-from
 
     -- from any cut before it, one token more
     pub one_more : (cut : ℕ) → cut ≤ r.start → Parted s cut → lex (between cut r.end s) ≡ lex (between cut r.start s) ++ token ∷ []
     one_more cut h p =
+        let b = cut-within in
         append_cancel_left (lex (take cut s)) (lex (between cut r.end s)) (lex (between cut r.start s) ++ token ∷ [])
-        (sym (lex-part s cut r.end (omega (arith, cut-within)) p) ∙ to_end
+        (sym (lex-part s cut r.end (omega (arith, b.filled)) p) ∙ to_end
         ∙ rw (lex-part s cut r.start h p) (append_assoc (lex (take cut s)) (lex (between cut r.start s)) (token ∷ [])))
 
     pub cut-begun : top' ≤ r.start
@@ -79,7 +78,7 @@ module _ (s : List ℕ) (top at d : ℕ) (g : Cut s top at d) (r : Lexeme) (e : 
       where
         go : (c : Bool) → cond c r.start top ≤ r.start
         go true = omega arith
-        go false = omega (arith, g.begun, cut-within)
+        go false = let b = cut-within in omega (arith, g.begun, b.behind)
 
     pub cut-top : Parted s top'
     cut-top = rw t (go (eqb d 0))
@@ -96,23 +95,23 @@ module _ (s : List ℕ) (top at d : ℕ) (g : Cut s top at d) (r : Lexeme) (e : 
     pub same-form : (d ≡ 0 → ⊥) → (lex (take top' s) ≡ lex (take top s)) × (lex (between top' r.start s) ≡ lex (between top at s))
     same-form z =
         let q : top' ≡ top = t ∙ rw (ne_eqb d 0 z) in
+        let b = cut-within in
         rw q (
           refl,
           append_cancel_left (lex (take top s)) (lex (between top r.start s)) (lex (between top at s))
-              (sym (lex-part s top r.start (omega (arith, g.begun, cut-within)) g.cut_top) ∙ to_start ∙ lex-part s top at g.begun g.cut_top),
+              (sym (lex-part s top r.start (omega (arith, g.begun, b.behind)) g.cut_top) ∙ to_start ∙ lex-part s top at g.begun g.cut_top),
         )
 
-    pub to-end-from : lex (take r.end s) ≡ lex (take at s) ++ token ∷ []
-    to-end-from = rw e (next-prefix s at g.within g.cut_here some_next)
-
     pub next-tokens : lex (drop at s) ≡ token ∷ lex (drop r.end s)
-    next-tokens = rw e (next-token s at g.within some_next)
+    next-tokens = next-token s at g.within r e
 
     pub cut-next : (d' : ℕ) → d' ≤ d + 1 → Cut s top' r.end d'
-    cut-next d' h = record {
-      within = omega (arith, cut-within);
-      begun = omega (arith, cut-begun, cut-within);
-      deep = omega (arith, h, g.deep, cut-less);
-      cut_top = cut-top;
-      cut_here = rw e (next-parted-end s at g.within);
-    }
+    cut-next d' h =
+        let b = cut-within in
+        record {
+          within = b.inside;
+          begun = omega (arith, cut-begun, b.filled);
+          deep = omega (arith, h, g.deep, b.behind, b.filled);
+          cut_top = cut-top;
+          cut_here = next-parted-end s at g.within r e;
+        }

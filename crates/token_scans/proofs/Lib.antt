@@ -1,3 +1,4 @@
+pub mod Modes
 pub mod Codes
 pub mod Hits
 pub mod Counts

@@ -1,25 +1,27 @@
 -- What the scans of a text answer.
-use Rattle.std.specs.Prelude.{◌≡◌, Bool, cond, ◌||◌, List, [], ◌∷◌, ℕ, ◌≤◌, eqb, length}
-use Rattle.notation.specs.Words.{Word, same_word, one_of, index_of}
-use Rattle.notation.proofs.Lexing.{lex}
-use Rattle.token_scans.specs.declared.Found.{Found}
-use Rattle.token_scans.specs.Scan.{heads_in}
+use Rattle.std.specs.Prelude.{cond, Bool, Option, Some, None, List, [], ◌∷◌, ℕ, ◌+◌}
+use Rattle.notation.specs.Words.{Word, one_of, index_of}
+use Rattle.notation.specs.Grammar.{Token}
+use Rattle.vocabulary.specs.Codes.{token_code}
+use Rattle.token_scans.specs.declared.Mode.{Mode}
+use Rattle.token_scans.specs.declared.Mode.TheVariants.{Elsewhere, Head, DefinitionName, BeforeParameters, Parameters, BoundName, FoldFunction}
+use Rattle.token_scans.specs.Scan.{mode_after}
 
--- the first of some words: 2 if it is this one, 1 if another, 0 if there is none
-abbrev pub hit_of : Word → List Word → ℕ
-hit_of w [] = 0
-hit_of w (x ∷ xs) = cond (same_word w x) 2 1
+-- the number of a mode
+abbrev pub number_of : Mode → ℕ
+number_of Elsewhere = 0
+number_of Head = 1
+number_of DefinitionName = 2
+number_of BeforeParameters = 3
+number_of Parameters = 4
+number_of BoundName = 5
+number_of FoldFunction = 6
 
--- a word among others
-pub record Among (w : Word) (ws : List Word) (r : Found) : Type 0 where
-  pub yes : r.yes ≡ one_of w ws
-  pub index : r.index ≡ index_of w ws
+-- where a word stands among others, if it does
+abbrev pub named : Word → List Word → Option ℕ
+named w ws = cond (one_of w ws) (Some (index_of w ws)) None
 
--- which heads are counted, by their codes: those with a slot, or rep
-abbrev pub counted : Bool → ℕ → Bool
-counted slots c = cond slots (eqb c 14 || (eqb c 15 || eqb c 16)) (eqb c 11)
-
--- how many heads of the bytes e are counted
-pub record Counted (f : ℕ → Bool) (e : List ℕ) (r : ℕ) : Type 0 where
-  pub same : r ≡ heads_in f 0 (lex e)
-  pub few : r ≤ length e
+-- how many tokens pass a test of their mode and their code, from the mode m on
+unfoldable pub counted : (ℕ → ℕ → Bool) → ℕ → List Token → ℕ
+counted f m [] = 0
+counted f m (t ∷ ts) = cond (f m (token_code t)) 1 0 + counted f (mode_after m (token_code t)) ts

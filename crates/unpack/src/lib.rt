@@ -1,10 +1,11 @@
 // The parts of a node's word: its form, its item (operator, parameter, variable or slot), the nodes that it names.
 #![tactic(auto)]
 
-ghost use Rattle.std.specs.Prelude.{◌≡◌};
-ghost use Rattle.words.specs.Word.{form, item, p1, p2, p3, p4, body, count, constant_of};
+ghost use Rattle.std.specs.Prelude.{◌≡◌, ◌/◌, ◌%◌, ◌^◌, ◌<◌};
+ghost use Rattle.words.specs.Word.{node_numbers, form, item, p1, p2, p3, p4, body, count, constant_of};
 
-// The forms, as crate words names them: those below LEAVES are leaves, those from FIELDS on give a field.
+// The forms, as crate words names them: those below LEAVES are leaves, those from FIELDS on give a field. Stays (d): numbers, no enum:
+// they are compared by size, number the bits of sets, and a quick form is what its word grows by.
 pub const CONSTANT: u8 = 0;
 
 pub const PARAMETER: u8 = 1;
@@ -54,47 +55,55 @@ pub fn form_of(w: u64) -> u8
 pub fn item_of(w: u64) -> u8
     ensures { result ≡ item w }
 {
-    (w / 32 % 16) as u8
+    ((w >> 5) % 16) as u8
+}
+
+// The number of a node, from bit AT on.
+fn node_at<const AT: u32>(w: u64) -> u16
+    requires { AT < 64 }
+    ensures { result ≡ w / 2 ^ AT % node_numbers }
+{
+    ((w >> AT) % 1024) as u16
 }
 
 pub fn first(w: u64) -> u16
     ensures { result ≡ p1 w }
 {
-    (w / 512 % 1024) as u16
+    node_at::<9>(w)
 }
 
 pub fn second(w: u64) -> u16
     ensures { result ≡ p2 w }
 {
-    (w / 524288 % 1024) as u16
+    node_at::<19>(w)
 }
 
 pub fn third(w: u64) -> u16
     ensures { result ≡ p3 w }
 {
-    (w / 536870912 % 1024) as u16
+    node_at::<29>(w)
 }
 
 pub fn fourth(w: u64) -> u16
     ensures { result ≡ p4 w }
 {
-    (w / 549755813888 % 1024) as u16
+    node_at::<39>(w)
 }
 
 pub fn body_of(w: u64) -> u16
     ensures { result ≡ body w }
 {
-    (w / 562949953421312 % 1024) as u16
+    node_at::<49>(w)
 }
 
 pub fn count_of(w: u64) -> u8
     ensures { result ≡ count w }
 {
-    (w / 576460752303423488 % 8) as u8
+    ((w >> 59) % 8) as u8
 }
 
 pub fn constant_of(w: u64) -> i32
     ensures { result ≡ constant_of w }
 {
-    (((w / 4294967296) as i64) - 2147483648) as i32
+    ((w >> 32) as i64 + i64::from(i32::MIN)) as i32
 }

@@ -3,19 +3,18 @@ use mathlib.Core.Path.{◌≡◌, refl, sym, ap, ◌∙◌}
 use mathlib.Core.Bool.{Bool, true, false, cond, ◌&&◌, ◌||◌, and-true}
 use mathlib.Core.List.{List, [], ◌∷◌, ◌++◌, map}
 use mathlib.Core.Logic.{◌↔◌}
-use Prim.Native.Nat.{ℕ, suc, ◌+◌, ◌-◌, ◌≤◌, ◌<◌}
+use Prim.Native.Nat.{ℕ, suc, ◌+◌, ◌≤◌, ◌<◌}
 use native.Mathlib.Omega.{arith}
 use lib.Dec.{eqb, leb, ltb, eqb-suc-suc}
 use lib.ListN.{length, get_or}
 use borrow.Author.Tests.{eqb-true, eq-eqb, ne_eqb, lt-ltb}
-use Rattle.notation.specs.Words.{Word, between, same_word, every, one_of, index_of, lookup, is_letter, is_digit, name_byte, is_name, the_def, the_rep, the_fold, the_inf, reserved_words, reserved, own_name}
+use Rattle.notation.specs.Words.{Word, same_word, every, one_of, index_of, lookup, is_letter, is_digit, name_byte, is_name, the_def, the_rep, the_fold, the_inf, reserved_words, reserved, own_name}
 use Rattle.notation.specs.Words.{operators, operator, is_count, is_negative, is_number, atom, binder, function, Head, operation, call, nothing, head_words, head_of}
 use Rattle.decide.proofs.Picks.{not-both, both}
 use Rattle.notation.proofs.Words.{same_word_lem}
 use Rattle.notation.proofs.Viable.{listed}
-use Rattle.vocabulary.specs.Codes.{code_of, known_words, known_from, place_of, head_by_code}
+use Rattle.vocabulary.specs.Codes.{code_of, known_words, place_of, head_by_code}
 use Rattle.fronts.specs.Fronts.{name_front, count_front, atom_front}
-use Rattle.notation.proofs.Between.{between-empty, between_cons, length-between}
 use Rattle.fronts.proofs.Classes.{letter-operator, number-letter, number-minus, number-other, count-whole, name-letter, name-whole}
 
 -- ---- where a word stands in a list
@@ -252,28 +251,24 @@ reserved-letter c v e = go (reserved (c ∷ v)) refl
     go true q = not-both (sym (listed is_name (c ∷ v) reserved_words refl q) ∙ name-letter c v e)
     go false q = refl
 
-module _ (s : List ℕ) (a b : ℕ) (hs : b ≤ length s) (h : a < b) where
-  pub place-letter : is_letter (get_or s a 0) ≡ true → 9 + index_of (between a b s) (known_from 9 19) ≡ place_of (between a b s)
-  place-letter e = sym (place-splits (between a b s) ∙ rw (ap operator (between_cons a b s h hs) ∙ letter-operator (get_or s a 0) (between (a + 1) b s) e))
+pub place-letter : (c : ℕ) (v : Word) → is_letter c ≡ true → 9 + index_of (c ∷ v) reserved_words ≡ place_of (c ∷ v)
+place-letter c v e = sym (place-splits (c ∷ v) ∙ rw (letter-operator c v e))
 
-  pub place-sign : 0 + index_of (between a b s) (known_from 0 9) < 9 → 0 + index_of (between a b s) (known_from 0 9) ≡ place_of (between a b s)
-  unfolding operator
-  place-sign k = sym (place-splits (between a b s) ∙ go (operator (between a b s)) refl)
-    where
-      go : (o : Bool) → one_of (between a b s) operators ≡ o
-          → cond o (index_of (between a b s) operators) (9 + index_of (between a b s) reserved_words) ≡ 0 + index_of (between a b s) operators
-      go true q = omega arith
-      go false q = let z = index-past (between a b s) operators q in absurd (omega arith)
+pub place-sign : (w : Word) → index_of w operators < 9 → index_of w operators ≡ place_of w
+unfolding operator
+place-sign w k = sym (place-splits w ∙ go (operator w) refl)
+  where
+    go : (o : Bool) → one_of w operators ≡ o → cond o (index_of w operators) (9 + index_of w reserved_words) ≡ index_of w operators
+    go true q = refl
+    go false q = let z = index-past w operators q in absurd (omega arith)
 
-  pub place_none : is_letter (get_or s a 0) ≡ false → 9 ≤ 0 + index_of (between a b s) (known_from 0 9) → 19 ≡ place_of (between a b s)
-  unfolding operator reserved
-  place_none e k = sym (place-splits (between a b s) ∙ go (operator (between a b s)) refl)
-    where
-      go : (o : Bool) → one_of (between a b s) operators ≡ o → cond o (index_of (between a b s) operators) (9 + index_of (between a b s) reserved_words) ≡ 19
-      go true q = let z = index-within (between a b s) operators q in absurd (omega arith)
-      go false q =
-          let z = index-past (between a b s) reserved_words (ap reserved (between_cons a b s h hs) ∙ reserved-letter (get_or s a 0) (between (a + 1) b s) e) in
-          omega arith
+pub place_none : (c : ℕ) (v : Word) → is_letter c ≡ false → 9 ≤ index_of (c ∷ v) operators → 19 ≡ place_of (c ∷ v)
+unfolding operator reserved
+place_none c v e k = sym (place-splits (c ∷ v) ∙ go (operator (c ∷ v)) refl)
+  where
+    go : (o : Bool) → one_of (c ∷ v) operators ≡ o → cond o (index_of (c ∷ v) operators) (9 + index_of (c ∷ v) reserved_words) ≡ 19
+    go true q = let z = index-within (c ∷ v) operators q in absurd (omega arith)
+    go false q = let z = index-past (c ∷ v) reserved_words (reserved-letter c v e) in omega arith
 
 pub code-word : (w : Word) → code_of w < 19 → w ≡ get_or known_words (code_of w) []
 unfolding code_of operator reserved
@@ -323,25 +318,24 @@ front-decides c v u = rw (u.no-operator, u.no-reserved, ← name-own (c ∷ v) u
         rw (name-letter c v e, z, number-minus v, count-whole v (minus-filled v o), eqb-suc-suc)
     go false false e f = rw (name-letter c v e, number-other c v e f, count-whole (c ∷ v) (omega arith))
 
-module _ (s : List ℕ) (a b : ℕ) (hs : b ≤ length s) where
-  pub code-none : b ≤ a → 21 ≡ code_of (between a b s)
-  unfolding code_of operator reserved own_name is_name is_number is_count is_negative
-  code-none h = rw (between-empty a b s h)
+pub code-none : 21 ≡ code_of []
+unfolding code_of operator reserved own_name is_name is_number is_count is_negative
+code-none = refl
 
-  -- by how far it begins what stands alone, f, and whether by a letter, l
-  module _ (h : a < b) (k : 19 ≤ place_of (between a b s)) (f : ℕ) (e : f ≡ atom_front (between a b s)) where
-    code-front : (l : Bool) → l ≡ is_letter (get_or s a 0) → cond (eqb f (b - a)) (cond l 19 20) 21 ≡ code_of (between a b s)
-    code-front l q =
-        let z = between_cons a b s h hs in
-        let n : b - a ≡ suc (length (between (a + 1) b s)) = omega (arith, length-between (a + 1) b s hs) in
-        let u : Unlisted (get_or s a 0 ∷ between (a + 1) b s) = rw z at (unlisted (between a b s) k) in
-        rw (e, q, z, n) (sym (front-decides (get_or s a 0) (between (a + 1) b s) u))
+-- by how far it begins what stands alone, f, and whether by a letter, l
+module _ (w : Word) (h : 0 < length w) (k : 19 ≤ place_of w) (f : ℕ) (e : f ≡ atom_front w) where
+  code-front : (l : Bool) → l ≡ is_letter (get_or w 0 0) → cond (eqb f (length w)) (cond l 19 20) 21 ≡ code_of w
+  code-front = go w h k e
+    where
+      go : (w : Word) → 0 < length w → 19 ≤ place_of w → f ≡ atom_front w → (l : Bool) → l ≡ is_letter (get_or w 0 0) → cond (eqb f (length w)) (cond l 19 20) 21 ≡ code_of w
+      go [] h k e l q = absurd (omega arith)
+      go (c ∷ v) h k e l q = rw (e, q) (sym (front-decides c v (unlisted (c ∷ v) k)))
 
-    pub code-refused : (f ≡ b - a → ⊥) → 21 ≡ code_of (between a b s)
-    code-refused m = rw (ne_eqb f (b - a) m) at (code-front (is_letter (get_or s a 0)) refl)
+  pub code-refused : (f ≡ length w → ⊥) → 21 ≡ code_of w
+  code-refused m = rw (ne_eqb f (length w) m) at (code-front (is_letter (get_or w 0 0)) refl)
 
-    pub code-name : f ≡ b - a → true ≡ is_letter (get_or s a 0) → 19 ≡ code_of (between a b s)
-    code-name m q = rw (eq-eqb f (b - a) m) at (code-front true q)
+  pub code-name : f ≡ length w → true ≡ is_letter (get_or w 0 0) → 19 ≡ code_of w
+  code-name m q = rw (eq-eqb f (length w) m) at (code-front true q)
 
-    pub code-digits : f ≡ b - a → false ≡ is_letter (get_or s a 0) → 20 ≡ code_of (between a b s)
-    code-digits m q = rw (eq-eqb f (b - a) m) at (code-front false q)
+  pub code-digits : f ≡ length w → false ≡ is_letter (get_or w 0 0) → 20 ≡ code_of w
+  code-digits m q = rw (eq-eqb f (length w) m) at (code-front false q)

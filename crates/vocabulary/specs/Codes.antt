@@ -1,5 +1,5 @@
 -- A word as a number, and a token. `proofs/Laws.antt` proves what the number says of the word in notation's terms.
-use Rattle.std.specs.Prelude.{cond, List, [], ◌∷◌, ◌++◌, ℕ, ◌+◌, ◌-◌, ltb, get_or, take, drop}
+use Rattle.std.specs.Prelude.{cond, List, [], ◌∷◌, ◌++◌, ℕ, ◌+◌, ◌-◌, ltb, get_or}
 use Rattle.notation.specs.Words.{Word, index_of, reserved_words, reserved, own_name, operators, operator, is_number, Head, plain, slotted, operation, rep, fold, define}
 use Rattle.notation.specs.Words.{call, nothing}
 use Rattle.notation.specs.Grammar.{Token, opening, closing, word}
@@ -17,10 +17,6 @@ known_words = operators ++ reserved_words
 
 unfoldable pub place_of : Word → ℕ
 place_of w = index_of w known_words
-
--- those from i up to j
-abbrev pub known_from : ℕ → ℕ → List Word
-known_from i j = take (j - i) (drop i known_words)
 
 -- what a word is behind an opening bracket, by its code
 abbrev pub form_heads : List Head

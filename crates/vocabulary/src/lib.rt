@@ -1,138 +1,136 @@
-// A word of a text, its bytes a..b, as a number, and a token; whether two words are the same; the bits of a number.
+// A word of a text as a number, and a token; the bits of a number.
 #![tactic(auto)]
 
-ghost use Rattle.std.specs.Prelude.{◌≡◌, true, ◌+◌, ◌≤◌, ◌<◌, length};
-ghost use Rattle.notation.specs.Words.{between, same_word, index_of, value_from, is_count, is_number, bits_of};
+ghost use Rattle.std.specs.Prelude.{◌≡◌, true, ◌<◌, ◌≤◌, length, map};
+ghost use Rattle.notation.specs.Words.{index_of, value_from, is_count, is_number, bits_of};
 ghost use Rattle.lexemes.specs.Lexeme.{token_by};
-ghost use Rattle.vocabulary.specs.Codes.{code_of, known_from, place_of, token_code};
+ghost use Rattle.vocabulary.specs.Codes.{code_of, place_of, token_code};
 
-// Where each operator and each reserved word begins in the bytes of them all, and where the last ends.
-const STARTS: [usize; 20] = [
-    0, 1, 2, 3, 4, 5, 6, 8, 10, 12, 15, 20, 23, 25, 28, 31, 40, 47, 57, 60,
+use lexemes::Kind;
+
+// What a word is, by its code: below DEF an operator, then a reserved word, another name, another number, no word of the notation.
+// Stays (d): numbers, no enum: the table of moves (crate levels) has a column for each, and operators go by their own.
+pub const DEF: u8 = 9;
+
+pub const SENSE: u8 = 10;
+
+pub const REP: u8 = 11;
+
+pub const IF: u8 = 12;
+
+pub const MUX: u8 = 13;
+
+pub const NBR: u8 = 14;
+
+pub const NBR_RANGE: u8 = 15;
+
+pub const NBR_LAG: u8 = 16;
+
+pub const FOLD: u8 = 17;
+
+pub const INF: u8 = 18;
+
+pub const NAME: u8 = 19;
+
+pub const NUMBER: u8 = 20;
+
+pub const NONE: u8 = 21;
+
+// The codes of brackets.
+pub const OPENING: u8 = 22;
+
+pub const CLOSING: u8 = 23;
+
+// The words of the notation, in the order of their codes; static, so that no call copies them.
+static OPERATORS: [&[u8]; 9] = [b"+", b"-", b"*", b"/", b"<", b">", b">=", b"==", b"!="];
+
+static RESERVED: [&[u8]; 10] = [
+    b"def",
+    b"sense",
+    b"rep",
+    b"if",
+    b"mux",
+    b"nbr",
+    b"nbr-range",
+    b"nbr-lag",
+    b"fold-hood*",
+    b"inf",
 ];
 
-// The bytes a..b of one text against c..d of another.
-fn equal(s: &[u8], a: usize, b: usize, t: &[u8], c: usize, d: usize) -> bool
-    requires { (a ≤ b) × (b ≤ length s.now) × (c ≤ d) × (d ≤ length t.now) }
-    ensures { result ≡ same_word (between a b s.now) (between c d t.now) }
+// Which of those words it is, their number for none.
+fn seek(words: &[&[u8]], w: &[u8]) -> u8
+    requires { length words.now < 256 }
+    ensures index { result ≡ index_of w.now (map (λ k. k.now) words.now) }
+    ensures within { result ≤ length words.now }
 {
-    if b - a != d - c {
-        return false;
-    }
-    let mut i = a;
-    let mut j = c;
-    while i < b {
-        if s[i] != t[j] {
-            return false;
-        }
-        i += 1;
-        j += 1;
-    }
-    true
+    words
+        .iter()
+        .position(|known| w == *known)
+        .unwrap_or(words.len()) as u8
 }
 
-pub fn same(s: &[u8], a: usize, b: usize, c: usize, d: usize) -> bool
-    requires { (a ≤ b) × (b ≤ length s.now) × (c ≤ d) × (d ≤ length s.now) }
-    ensures { result ≡ same_word (between a b s.now) (between c d s.now) }
+// Which operator or reserved word it is, NAME for none.
+fn place(w: &[u8]) -> u8
+    requires { 0 < length w.now }
+    ensures { result ≡ place_of w.now }
 {
-    equal(s, a, b, s, c, d)
-}
-
-// Which of the words from..to it is, `to` for none.
-fn seek(s: &[u8], a: usize, b: usize, from: usize, to: usize) -> u8
-    requires { (a ≤ b) × (b ≤ length s.now) × (from ≤ to) × (to ≤ 19) }
-    ensures { result ≡ from + index_of (between a b s.now) (known_from from to) }
-{
-    let words = b"+-*/<>>===!=defsenserepifmuxnbrnbr-rangenbr-lagfold-hood*inf";
-    let starts = STARTS; // named in the loop, the constant is copied at each turn
-    let mut k = from;
-    while k < to {
-        if equal(s, a, b, words, starts[k], starts[k + 1]) {
-            return k as u8;
-        }
-        k += 1;
+    if fronts::is_letter(w[0]) {
+        return DEF + seek(&RESERVED, w);
     }
-    to as u8
-}
-
-// Which operator or reserved word it is, 19 for none.
-fn place(s: &[u8], a: usize, b: usize) -> u8
-    requires { (a < b) × (b ≤ length s.now) }
-    ensures { result ≡ place_of (between a b s.now) }
-{
-    if fronts::is_letter(s[a]) {
-        return seek(s, a, b, 9, 19);
-    }
-    let k = seek(s, a, b, 0, 9);
-    if k < 9 {
-        return k;
-    }
-    19
+    let k = seek(&OPERATORS, w);
+    if k < DEF { k } else { NAME }
 }
 
 // 0 to 8 an operator, 9 to 18 a reserved word, 19 another name, 20 another number, 21 no word of the notation.
-pub fn code(s: &[u8], a: usize, b: usize) -> u8
-    requires { (a ≤ b) × (b ≤ length s.now) }
-    ensures { result ≡ code_of (between a b s.now) }
+pub fn code(w: &[u8]) -> u8
+    ensures { result ≡ code_of w.now }
 {
-    if a == b {
-        return 21;
+    let [first, ..] = w else {
+        return NONE;
+    };
+    let k = place(w);
+    if k < NAME {
+        k
+    } else if fronts::atom_front(w) != w.len() {
+        NONE
+    } else if fronts::is_letter(*first) {
+        NAME
+    } else {
+        NUMBER
     }
-    let k = place(s, a, b);
-    if k < 19 {
-        return k;
-    }
-    if fronts::atom_front(s, a, b) != b - a {
-        return 21;
-    }
-    if fronts::is_letter(s[a]) {
-        return 19;
-    }
-    20
 }
 
 // The value of digits.
-fn value(s: &[u8], a: usize, b: usize) -> u32
-    requires { (a ≤ b) × (b ≤ length s.now) × (is_count (between a b s.now) ≡ true) }
-    ensures { result ≡ value_from 0 (between a b s.now) }
+fn value(w: &[u8]) -> u32
+    requires { is_count w.now ≡ true }
+    ensures { result ≡ value_from 0 w.now }
 {
     let mut n: u32 = 0;
-    let mut i = a;
-    while i < b {
-        n = n * 10 + ((s[i] - 48) as u32);
-        i += 1;
+    for d in w {
+        n = n * 10 + u32::from(*d - b'0');
     }
     n
 }
 
-// The bits of a number.
-pub fn bits(s: &[u8], a: usize, b: usize) -> u32
-    requires { (a ≤ b) × (b ≤ length s.now) × (is_number (between a b s.now) ≡ true) }
-    ensures { result ≡ bits_of (between a b s.now) }
+// The bits of a number; inf is the greatest.
+pub fn bits(w: &[u8]) -> u32
+    requires { is_number w.now ≡ true }
+    ensures { result ≡ bits_of w.now }
 {
-    if s[a] == 45 {
-        let n = value(s, a + 1, b);
-        if n == 0 {
-            return 0;
-        }
-        return 4294967295 - n + 1;
+    match w[0] {
+        b'-' => value(&w[1..]).wrapping_neg(),
+        first if fronts::is_letter(first) => i32::MAX as u32,
+        _ => value(w),
     }
-    if fronts::is_letter(s[a]) {
-        return 2147483647;
-    }
-    value(s, a, b)
 }
 
-// The code of a token of that kind, with the bytes a..b.
-pub fn token_code(s: &[u8], kind: u8, a: usize, b: usize) -> u8
-    requires { (a ≤ b) × (b ≤ length s.now) }
-    ensures { result ≡ token_code (token_by kind (between a b s.now)) }
+// The code of a token of that kind, with those bytes.
+pub fn token_code(kind: Kind, w: &[u8]) -> u8
+    ensures { result ≡ token_code (token_by kind w.now) }
 {
-    if kind == 1 {
-        return 22;
+    match kind {
+        Kind::Opening => OPENING,
+        Kind::Closing => CLOSING,
+        Kind::Word => code(w),
     }
-    if kind == 2 {
-        return 23;
-    }
-    code(s, a, b)
 }

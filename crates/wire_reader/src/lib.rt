@@ -1,59 +1,35 @@
 // One field of a list: a tag byte, a length of two bytes (high first), a body.
 #![tactic(auto)]
 
-ghost use Rattle.std.specs.Prelude.{◌≡◌, [], ◌∷◌, ◌+◌, ◌*◌};
-ghost use Rattle.wire.specs.Wire.{big};
-ghost use Rattle.wire_reader.specs.Field.{field_at};
+ghost use Rattle.std.specs.Prelude.{◌≡◌, ◌+◌, length, option_map, IfSome};
+ghost use Rattle.wire.specs.Wire.{big, fields_of};
+ghost use Rattle.wire_reader.specs.Field.{split_of, fields_by};
 
-#[derive(Drop)]
-pub enum Field {
-    // The body starts at start and is len bytes long; next is past it.
-    Whole {
-        tag: u8,
-        start: usize,
-        len: usize,
-        next: usize,
-    },
-    // Bytes are left that begin no whole field.
-    Cut,
-    // No byte is left.
-    End,
+#[derive(Clone, Copy)]
+pub struct Field<'a> {
+    pub tag: u8,
+    pub body: &'a [u8],
 }
 
-// Two bytes, high first.
-fn be16(hi: u8, lo: u8) -> usize
-    ensures { result ≡ hi * 256 + lo }
+// Four bytes, high first. Stays (d): it says what wire calls `big`, for each of its callers.
+#[tactic(auto, using(crate::proofs::Laws::big_by_bytes))]
+pub fn be32(bytes: [u8; 4]) -> u32
+    ensures { result ≡ big bytes }
 {
-    (hi as usize) * 256 + (lo as usize)
+    u32::from_be_bytes(bytes)
 }
 
-// Four bytes, high first.
-pub fn be32(a: u8, b: u8, c: u8, d: u8) -> u32
-    ensures { result ≡ big (a ∷ b ∷ c ∷ d ∷ []) }
+// The first field of a list and what stands behind it; None where no byte is left, or those left begin no whole field.
+#[tactic(auto, using(crate::proofs::Laws::by_split))]
+pub fn split_field(s: &[u8]) -> Option<(Field<'_>, &[u8])>
+    ensures split { option_map (λ p. (p.0.tag, p.0.body.now, p.1.now)) result ≡ split_of s.now }
+    ensures fields { fields_of s.now ≡ fields_by s.now (split_of s.now) }
+    ensures shorter { IfSome result (λ p. length p.0.body.now + length p.1.now + 3 ≡ length s.now) }
 {
-    (a as u32) * 16777216 + (b as u32) * 65536 + (c as u32) * 256 + (d as u32)
-}
-
-// The field that starts at `at`.
-pub fn read_field(s: &[u8], at: usize) -> Field
-    ensures { result ≡ field_at s.now at }
-{
-    if s.len() <= at {
-        return Field::End;
-    }
-    if s.len() - at < 3 {
-        return Field::Cut;
-    }
-    let n = be16(s[at + 1], s[at + 2]);
-    let start = at + 3;
-    if n <= s.len() - start {
-        Field::Whole {
-            tag: s[at],
-            start: start,
-            len: n,
-            next: start + n,
-        }
-    } else {
-        Field::Cut
-    }
+    let [tag, high, low, rest @ ..] = s else {
+        return None;
+    };
+    let length = usize::from(u16::from_be_bytes([*high, *low]));
+    let (body, next) = rest.split_at_checked(length)?;
+    Some((Field { tag: *tag, body }, next))
 }

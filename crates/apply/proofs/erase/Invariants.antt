@@ -1,11 +1,8 @@
--- `apply::erase` keeps this in its loops.
-use mathlib.Core.Path.{◌≡◌}
+-- `apply::erase` keeps this in its loop.
+use Rattle.std.proofs.Common.{◌≡◌}
 use Rattle.domain.specs.Members.{members}
 use Rattle.apply.proofs.Erasing.{wiped}
 use Rattle.apply.proofs.erase.Given as goal
 
-abbrev pub invariant-loop-variables : goal.invariant-loop-variables
-invariant-loop-variables l = wiped (members l.variables.bits) l.st ≡ wiped (members l.mask) l.initial.st
-
-abbrev pub decreases-loop-variables : goal.decreases-loop-variables
-decreases-loop-variables l = l.variables.bits
+abbrev pub invariant-loop-v : goal.invariant-loop-v
+invariant-loop-v l = wiped (members l.v-iterator.bits) l.st ≡ wiped (members l.mask) l.initial.st

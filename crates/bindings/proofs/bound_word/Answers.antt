@@ -1,23 +1,19 @@
 -- `bindings::bound_word` meets its contract. Assumes nothing.
-use mathlib.Core.Path.{refl}
-use borrow.Author.Tests.{ne_eqb}
-use Rattle.bindings.proofs.Goods.{number_word, rep_word, parameter-word}
+use Rattle.std.specs.Prelude.{is_some}
+use Rattle.std.proofs.Common.{ap, ◌∙◌}
+use Rattle.notation.proofs.Lexing.{lex}
+use Rattle.token_scans.specs.Scan.{parameters_in}
+use Rattle.bindings.proofs.Goods.{named-some, outward-some, number-word, other-word}
 use Rattle.bindings.proofs.bound_word.Goals as goal
 
-pub returns-then-k-eq18 : goal.returns-then-k-eq18
-returns-then-k-eq18 c = number_word _ _ c.code-k.ensures _ (rw c.if-k-eq18.true)
+pub returns-in-18 : goal.returns-in-18
+returns-in-18 c = number-word _ _ c.code.ensures _ c.in-18.is
 
-pub returns-then-k-eq20 : goal.returns-then-k-eq20
-returns-then-k-eq20 c = number_word _ _ c.code-k.ensures _ (rw c.if-k-eq20.true)
+pub returns-then-is_some : goal.returns-then-is_some
+returns-then-is_some c =
+    rw (other-word _ _ c.code.ensures (lex c.args.form.now) c.in_default.in_default-own.rest.1, outward-some _ _ _ c.rep_of.ensures, ← c.is_some.ensures, c.if-is_some.true)
 
-pub returns-then-f : goal.returns-then-f
-returns-then-f c =
-    let k = c.code-k in
-    rep_word _ _ k.ensures _ (rw (ne_eqb k.result 18 c.if-k-eq18.false, ne_eqb k.result 20 c.if-k-eq20.false))
-    _ refl c.rep_of-f.result c.rep_of-f.ensures c.if-f.true
-
-pub returns : goal.returns
-returns c =
-    let k = c.code-k in
-    parameter-word _ _ k.ensures _ (rw (ne_eqb k.result 18 c.if-k-eq18.false, ne_eqb k.result 20 c.if-k-eq20.false))
-    _ refl c.rep_of-f.result c.rep_of-f.ensures c.if-f.false c.parameter_of-g.result c.parameter_of-g.ensures
+pub returns-else-is_some : goal.returns-else-is_some
+returns-else-is_some c =
+    rw (other-word _ _ c.code.ensures (lex c.args.form.now) c.in_default.in_default-own.rest.1, outward-some _ _ _ c.rep_of.ensures, ← c.is_some.ensures, c.if-is_some.false)
+    (c.is_some-else-is_some.ensures ∙ ap is_some c.name_in.ensures ∙ named-some c.args.w.now (parameters_in (lex c.args.form.now)))

@@ -1,74 +1,39 @@
 -- `calls::carry_out` meets its contract. Assumes nothing.
-use mathlib.Core.Path.{◌≡◌, ◌∙◌}
-use mathlib.Core.List.{List}
-use Prim.Native.Nat.{ℕ}
-use native.Mathlib.Omega.{arith}
-use lib.IntN.{ℤ}
-use Rattle.program.specs.Check.{check}
-use Rattle.network.specs.Network.{soundness}
-use Rattle.event.specs.Event.{Read}
-use Rattle.calls.specs.Carried.{read_by}
-use Rattle.calls.proofs.Laws.{no_number, of-verdict, of-events, by-program, by-network, by-list, by-room, tested, carried}
+use mathlib.Core.Path.{◌≡◌, sym}
+use Rattle.std.proofs.lemmas.Result.{err_from_is_err_and}
+use Rattle.effects.proofs.Lit.{sound-length}
+use Rattle.calls.proofs.Laws.{by-program, by-network, by-list, by-room, tested, carried}
 use Rattle.calls.proofs.carry_out.Goals as goal
 
-pub returns-then-p-ne0 : goal.returns-then-p-ne0
-returns-then-p-ne0 c =
-    let program : List ℕ = c.args.program.now in
-    let network : List ℤ = c.args.network.now in
-    let read : Read = read_by c.args.single c.args.list.now in
-    let space : List ℤ = c.args.space.now in
-    by-program program network read space c.refused.result (c.refused.ensures ∙ c.prepare-p.ensures.verdict)
-    (λ z. c.if-p-ne0.true (no_number c.refused.ensures z))
+pub returns-in_err-main : goal.returns-in_err-main
+returns-in_err-main g c = λ read t.
+    let p = err_from_is_err_and c.from_residual.result c.from_residual.ensures.1 in
+    rw (p.1, p.2) (by-program _ _ _ _ _ (sym c.in_err-main.ensures))
 
-pub returns-then-sound-ne0 : goal.returns-then-sound-ne0
-returns-then-sound-ne0 c =
-    let program : List ℕ = c.args.program.now in
-    let network : List ℤ = c.args.network.now in
-    let read : Read = read_by c.args.single c.args.list.now in
-    let space : List ℤ = c.args.space.now in
-    let program-good : (check program).0 ≡ 0 = no_number c.prepare-p.ensures.verdict c.if-p-ne0.false in
-    let r = c.soundness-sound in
-    by-network program network read space r.result program-good r.ensures c.if-sound-ne0.true
+pub returns-in_err-soundness : goal.returns-in_err-soundness
+returns-in_err-soundness g c = λ read t.
+    let p = err_from_is_err_and c.from_residual-in_err-soundness.result c.from_residual-in_err-soundness.ensures.1 in
+    rw (p.1, p.2) (by-network _ _ _ _ _ c.in_ok-main.ensures.0 c.in_err-soundness.ensures)
 
-pub returns-then-counted-ne0 : goal.returns-then-counted-ne0
-returns-then-counted-ne0 c =
-    let program : List ℕ = c.args.program.now in
-    let network : List ℤ = c.args.network.now in
-    let read : Read = read_by c.args.single c.args.list.now in
-    let space : List ℤ = c.args.space.now in
-    let program-good : (check program).0 ≡ 0 = no_number c.prepare-p.ensures.verdict c.if-p-ne0.false in
-    let network-sound : (soundness network).0 ≡ 0 = no_number c.soundness-sound.ensures (omega arith) in
-    by-list program network read space c.refused-then-counted-ne0.result program-good network-sound
-    (c.refused-then-counted-ne0.ensures ∙ of-verdict read _ c.count-counted.ensures) (λ z. c.if-counted-ne0.true (no_number c.refused-then-counted-ne0.ensures z))
+pub returns-in_err-events : goal.returns-in_err-events
+returns-in_err-events g c = λ read t.
+    let p = err_from_is_err_and c.from_residual-in_err-events.result c.from_residual-in_err-events.ensures.1 in
+    rw (p.1, p.2) (by-list _ _ _ _ _ c.in_ok-main.ensures.0 (sym c.in_ok-soundness.ensures) (t.count _ c.in_err-events.ensures))
 
-pub returns-then-space-counted : goal.returns-then-space-counted
-returns-then-space-counted c =
-    let program : List ℕ = c.args.program.now in
-    let network : List ℤ = c.args.network.now in
-    let read : Read = read_by c.args.single c.args.list.now in
-    let space : List ℤ = c.args.space.now in
-    let program-good : (check program).0 ≡ 0 = no_number c.prepare-p.ensures.verdict c.if-p-ne0.false in
-    let network-sound : (soundness network).0 ≡ 0 = no_number c.soundness-sound.ensures (omega arith) in
-    let k = c.count-counted in
-    by-room program network read space c.refused-then-space-counted.result program-good network-sound (no_number (of-verdict read _ k.ensures) c.if-counted-ne0.false)
-    k.result.events (of-events read _ k.ensures) c.refused-then-space-counted.ensures c.if-space-counted.true
+pub returns-then-space-events : goal.returns-then-space-events
+returns-then-space-events g c = λ read t. by-room _ _ _ _ c.in_ok-main.ensures.0 (sym c.in_ok-soundness.ensures) c.in_ok-events.events (t.count _ c.in_ok-events.ensures) c.if-space-events.true
 
 pub perform-requires : goal.perform-requires
-perform-requires c =
-    let program : List ℕ = c.args.program.now in
-    let network : List ℤ = c.args.network.now in
-    let space : List ℤ = c.args.space.now in
-    let network-sound : (soundness network).0 ≡ 0 = no_number c.soundness-sound.ensures (omega arith) in
-    tested program network c.args.list.now c.args.single space (c.prepare-p.ensures.ready c.if-p-ne0.false) network-sound
-    c.count-counted.ensures c.if-counted-ne0.false c.if-space-counted.false
+perform-requires g c =
+    let r = c.requires.counts in
+    let same : c.in-Some.cells.now ≡ c.args.network.now = c.in-Some.ensures.cases.same in
+    rw same (tested _ _ _ _ r.0 c.in_ok-main.ensures.1 (sym c.in_ok-soundness.ensures) c.in_ok-events.events (r.1.count _ c.in_ok-events.ensures) r.1.list c.if-space-events.false)
 
 pub returns : goal.returns
-returns c =
-    let program : List ℕ = c.args.program.now in
-    let network : List ℤ = c.args.network.now in
-    let space : List ℤ = c.args.space.now in
-    let program-good : (check program).0 ≡ 0 = no_number c.prepare-p.ensures.verdict c.if-p-ne0.false in
-    let network-sound : (soundness network).0 ≡ 0 = no_number c.soundness-sound.ensures (omega arith) in
-    carried program network c.args.list.now c.args.single space (c.prepare-p.ensures.ready c.if-p-ne0.false) network-sound
-    c.count-counted.ensures c.if-counted-ne0.false c.if-space-counted.false
-    c.perform.result c.perform.ensures.0 program-good c.perform.ensures.1
+returns g c = λ read t.
+    let same : c.in-Some.cells.now ≡ c.args.network.now = c.in-Some.ensures.cases.same in
+    carried _ _ _ _ read c.in_ok-main.ensures.1 (sym c.in_ok-soundness.ensures) c.in_ok-events.events (t.count _ c.in_ok-events.ensures) t.list c.if-space-events.false
+    c.in_ok-main.ensures.0 (rw same at c.perform.ensures)
+
+pub unreachable-requires : goal.unreachable-requires
+unreachable-requires g c = c.in_default.ensures.cases (sound-length _ (sym c.in_ok-soundness.ensures))

@@ -1,14 +1,7 @@
--- `cell_rules::any_present` keeps this in its loops.
-use mathlib.Core.Path.{◌≡◌}
-use mathlib.Core.Bool.{not}
-use Prim.Native.Nat.{◌-◌, ◌≤◌}
-use lib.Dec.{eqb}
-use Rattle.network.specs.Cells.{row}
+-- `cell_rules::any_present` keeps this in its loop.
+use Rattle.std.proofs.Common.{◌≡◌, take}
 use Rattle.network.specs.Network.{any_present}
 use Rattle.cell_rules.proofs.any_present.Given as goal
 
-abbrev pub invariant-loop-i : goal.invariant-loop-i
-invariant-loop-i l = (l.i ≤ 15) × (eqb l.any 0 ≡ not (any_present (row l.net l.at l.i)))
-
-abbrev pub decreases-loop-i : goal.decreases-loop-i
-decreases-loop-i l = 15 - l.i
+abbrev pub invariant-loop-x : goal.invariant-loop-x
+invariant-loop-x l = l.any ≡ any_present (take l.x-index l.slots)

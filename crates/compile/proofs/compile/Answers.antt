@@ -1,81 +1,34 @@
 -- `compile::compile` meets its contract. Assumes nothing.
-use mathlib.Core.Path.{sym, ◌∙◌}
-use Prim.Native.Nat.{◌-◌}
-use native.Mathlib.Omega.{arith}
-use Rattle.compile.specs.Writes.{Able}
-use Rattle.compile.proofs.Turning.{making-first, making-able, making-end, making-over, making-none, making-within, making-begun, making-less, making-full, making-next}
+use Rattle.std.proofs.Common.{sym, ◌∙◌, arith}
+use Rattle.compile.proofs.Turning.{making-first, making-able, making-end, making-within, making-begun, making-full, making-next}
 use Rattle.compile.proofs.compile.Goals as goal
 
-pub loop-at-init : goal.loop-at-init
-loop-at-init c = making-first c.args.s.now _ c.requires
+pub loop-l-init : goal.loop-l-init
+loop-l-init c = rw c.new-table.ensures (making-first _)
 
-pub next-l-requires : goal.next-l-requires
-next-l-requires c = c.loop-at.invariant.going.cut.within
+pub token_done-requires : goal.token_done-requires
+token_done-requires c =
+    let b = making-begun c.loop-l.invariant _ (sym c.next.ensures ∙ c.in-Some.is) _ c.form_start-top.ensures in
+    let h = making-within c.loop-l.invariant _ (sym c.next.ensures ∙ c.in-Some.is) in
+    (b.0, omega (arith, h.filled), h.inside, b.1, making-able c.loop-l.invariant)
 
-pub last-requires : goal.last-requires
-last-requires c =
-    let ready : Able c.loop-at.out c.loop-at.stack c.loop-at.o = making-able c.args.s.now _ _ _ _ _ _ _ c.loop-at.invariant in
-    let a = ready in (a.long, let x = a.waiting in omega (arith, x))
+pub returns-then-is_full : goal.returns-then-is_full
+returns-then-is_full c =
+    making-full c.loop-l.invariant _ (sym c.next.ensures ∙ c.in-Some.is) _ c.form_start-top.ensures _ _ c.token_done.ensures (sym c.is_full.ensures ∙ c.if-is_full.true)
+
+pub slice_bounds-token_code-end : goal.slice_bounds-token_code-end
+slice_bounds-token_code-end c = (making-within c.loop-l.invariant _ (sym c.next.ensures ∙ c.in-Some.is)).inside
+
+pub loop-l-smaller : goal.loop-l-smaller
+loop-l-smaller c = let h = making-within c.loop-l.invariant _ (sym c.next.ensures ∙ c.in-Some.is) in omega (arith, h.behind, h.filled, h.inside)
+
+pub loop-l-preserved : goal.loop-l-preserved
+loop-l-preserved c =
+    making-next c.loop-l.invariant _ (sym c.next.ensures ∙ c.in-Some.is) _ c.form_start-top.ensures _ _ c.token_done.ensures (sym c.is_full.ensures ∙ c.if-is_full.false)
+    _ _ _ c.depth_after-depth.ensures c.token_code.ensures c.after-mode.ensures
 
 pub main_node-requires : goal.main_node-requires
-main_node-requires c =
-    let ready : Able c.loop-at.out c.loop-at.stack c.loop-at.o = making-able c.args.s.now _ _ _ _ _ _ _ c.loop-at.invariant in
-    let a = ready in (a.room, let x = a.small in omega (arith, x))
-
-pub returns-then-kind-eq0 : goal.returns-then-kind-eq0
-returns-then-kind-eq0 c =
-    let s = c.args.s.now in
-    making-end s _ _ _ _ _ _ _ c.loop-at.invariant (making-none s _ _ _ _ _ _ _ c.loop-at.invariant _ c.next-l.ensures c.if-kind-eq0.true) _ _ _ c.last.ensures c.main_node.ensures
-
-pub token_done-o-requires : goal.token_done-o-requires
-token_done-o-requires c =
-    let ready : Able c.loop-at.out c.loop-at.stack c.loop-at.o = making-able c.args.s.now _ _ _ _ _ _ _ c.loop-at.invariant in
-    let s = c.args.s.now in
-    let b = making-begun s _ _ _ _ _ _ _ c.loop-at.invariant _ c.next-l.ensures c.if-kind-eq0.false _ c.form_start-top.ensures in
-    let w = making-within s _ _ _ _ _ _ _ c.loop-at.invariant _ c.next-l.ensures in
-    (b.0, w.1, w.2, b.1, ready)
-
-pub returns-then-full : goal.returns-then-full
-returns-then-full c =
-    let s = c.args.s.now in
-    making-full s _ _ _ _ _ _ _ c.loop-at.invariant _ c.next-l.ensures c.if-kind-eq0.false _ c.form_start-top.ensures _ _ _ c.token_done-o.ensures (sym c.full.ensures ∙ c.if-full.true)
-
-pub depth_after-d-requires : goal.depth_after-d-requires
-depth_after-d-requires c =
-    let s = c.args.s.now in
-    let x = making-less s _ _ _ _ _ _ _ c.loop-at.invariant _ c.next-l.ensures c.if-kind-eq0.false _ c.form_start-top.ensures in
-    let y = c.loop-at.invariant.going.cut.deep in
-    omega (arith, x, y, c.next-l.type_inv)
-
-pub token_code-requires : goal.token_code-requires
-token_code-requires c =
-    let w = making-within c.args.s.now _ _ _ _ _ _ _ c.loop-at.invariant _ c.next-l.ensures in
-    (w.1, w.2)
-
-pub loop-at-smaller : goal.loop-at-smaller
-loop-at-smaller c =
-    let s = c.args.s.now in
-    let x = making-less s _ _ _ _ _ _ _ c.loop-at.invariant _ c.next-l.ensures c.if-kind-eq0.false _ c.form_start-top.ensures in
-    let w = making-within s _ _ _ _ _ _ _ c.loop-at.invariant _ c.next-l.ensures in
-    omega (arith, x, w.2)
-
-pub loop-at-preserved : goal.loop-at-preserved
-loop-at-preserved c =
-    let s = c.args.s.now in
-    making-next s _ _ _ _ _ _ _ c.loop-at.invariant _ c.next-l.ensures c.if-kind-eq0.false _ c.form_start-top.ensures _ _ _ c.token_done-o.ensures (sym c.full.ensures ∙ c.if-full.false) _ _ _
-    c.depth_after-d.ensures c.token_code.ensures c.mode_after-m.ensures
-
-pub last-requires-2 : goal.last-requires-2
-last-requires-2 c =
-    let ready : Able c.loop-at.out c.loop-at.stack c.loop-at.o = making-able c.args.s.now _ _ _ _ _ _ _ c.loop-at.invariant in
-    let a = ready in (a.long, let x = a.waiting in omega (arith, x))
-
-pub main_node-requires-2 : goal.main_node-requires-2
-main_node-requires-2 c =
-    let ready : Able c.loop-at.out c.loop-at.stack c.loop-at.o = making-able c.args.s.now _ _ _ _ _ _ _ c.loop-at.invariant in
-    let a = ready in (a.room, let x = a.small in omega (arith, x))
+main_node-requires c = let a = making-able c.loop-l.invariant in omega (arith, a.small)
 
 pub returns : goal.returns
-returns c =
-    let s = c.args.s.now in
-    making-end s _ _ _ _ _ _ _ c.loop-at.invariant (making-over s _ _ _ _ _ _ _ c.loop-at.invariant c.loop-at-test.false) _ _ _ c.last-2.ensures c.main_node-2.ensures
+returns c = making-end c.loop-l.invariant (sym c.next.ensures ∙ c.in_default.is) _ c.last.result c.last.ensures c.main_node.ensures

@@ -1,11 +1,11 @@
--- `compile::compile` keeps this in its loops.
-use Prim.Native.Nat.{◌-◌}
-use lib.ListN.{length}
+-- `compile::compile` keeps this in its loop.
+use Rattle.std.specs.Prelude.{◌-◌, length}
+use Rattle.token_scans.specs.Sought.{number_of}
 use Rattle.compile.proofs.Turning.{Making}
 use Rattle.compile.proofs.compile.Given as goal
 
-abbrev pub invariant-loop-at : goal.invariant-loop-at
-invariant-loop-at l = Making l.s l.out l.stack l.o l.top l.at l.d l.m
+abbrev pub invariant-loop-l : goal.invariant-loop-l
+invariant-loop-l l = Making l.s l.table l.waiting l.top l.at l.depth (number_of l.mode)
 
-abbrev pub decreases-loop-at : goal.decreases-loop-at
-decreases-loop-at l = length l.s - l.at
+abbrev pub decreases-loop-l : goal.decreases-loop-l
+decreases-loop-l l = length l.s - l.at

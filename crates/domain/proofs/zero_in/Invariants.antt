@@ -1,12 +1,7 @@
--- `domain::zero_in` keeps this in its loops.
-use mathlib.Core.Path.{◌≡◌}
-use Prim.Native.Nat.{◌-◌}
-use lib.ListN.{length}
+-- `domain::zero_in` keeps this in its loop.
+use Rattle.std.proofs.Common.{◌≡◌}
 use Rattle.domain.specs.Members.{members, any_zero}
 use Rattle.domain.proofs.zero_in.Given as goal
 
-abbrev pub invariant-loop-size : goal.invariant-loop-size
-invariant-loop-size l = (l.size ≡ length (members l.left.bits)) × (any_zero (members l.left.bits) l.ys ≡ any_zero (members l.initial.left.bits) l.ys)
-
-abbrev pub decreases-loop-size : goal.decreases-loop-size
-decreases-loop-size l = l.size
+abbrev pub invariant-loop-k : goal.invariant-loop-k
+invariant-loop-k l = any_zero (members l.k-iterator.bits) l.ys ≡ any_zero (members l.fn.dom.bits) l.ys

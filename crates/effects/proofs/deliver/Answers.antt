@@ -1,75 +1,45 @@
 -- `effects::deliver` meets its contract. Assumes nothing.
-use mathlib.Core.Path.{◌≡◌, sym, ap, ◌∙◌}
+use mathlib.Core.Path.{refl, ◌∙◌}
+use Prim.Native.Nat.{◌+◌}
 use native.Mathlib.Omega.{arith}
-use borrow.Author.Rules.{sfits_of}
-use lib.IntN.{pos}
+use lib.IntN.{ℤ, pos}
 use lib.ListN.{length-set}
-use mir.Syntax.{w32}
-use mir.Val.{of_z}
-use Rattle.event.specs.Event.{deliver}
-use Rattle.event.specs.Step.{refusal}
+use Rattle.std.proofs.lemmas.Result.{err_from_is_err_and}
 use Rattle.network.proofs.Stores.{store-one}
-use Rattle.event.proofs.Devices.{Pair}
-use Rattle.effects.proofs.Refusals.{turned_by, carried-out, two-devices}
+use Rattle.effects.proofs.Refusals.{turned, carried-out, two-devices}
+use Rattle.effects.proofs.Stores.{copied}
 use Rattle.effects.proofs.deliver.Goals as goal
 
-pub returns-then-code-ne0 : goal.returns-then-code-ne0
-returns-then-code-ne0 c =
-    turned_by _ _ _ c.message_refusal-code.result (sfits_of c.message_refusal-code.type_inv) c.message_refusal-code.ensures
-    c.if-code-ne0.true c.answered.ensures
-
-pub pending_to-at-requires : goal.pending_to-at-requires
-pending_to-at-requires c =
-    let passes : refusal c.args.net.now (deliver c.args.a c.args.b) ≡ 0 = sym (ap (of_z w32) c.message_refusal-code.ensures) ∙ c.if-code-ne0.false in
-    let two : Pair c.args.a c.args.b = two-devices _ _ _ passes in
-    let p = two in omega arith
+pub returns-in_err-message : goal.returns-in_err-message
+returns-in_err-message c = let p = err_from_is_err_and c.from_residual.result c.from_residual.ensures.1 in rw (p.1, p.2) (turned _ _ _ c.in_err-message.ensures)
 
 pub heard_from-heard-requires : goal.heard_from-heard-requires
-heard_from-heard-requires c =
-    let passes : refusal c.args.net.now (deliver c.args.a c.args.b) ≡ 0 = sym (ap (of_z w32) c.message_refusal-code.ensures) ∙ c.if-code-ne0.false in
-    let two : Pair c.args.a c.args.b = two-devices _ _ _ passes in
-    let p = two in omega arith
+heard_from-heard-requires c = let p = two-devices _ _ _ c.in_ok-message.ensures.passes in omega arith
 
-pub copy_row-requires : goal.copy_row-requires
-copy_row-requires c =
-    let passes : refusal c.args.net.now (deliver c.args.a c.args.b) ≡ 0 = sym (ap (of_z w32) c.message_refusal-code.ensures) ∙ c.if-code-ne0.false in
-    let two : Pair c.args.a c.args.b = two-devices _ _ _ passes in
-    let p = two in
-    (omega (arith, c.pending_to-at.ensures), omega (arith, c.heard_from-heard.ensures))
+pub copy_within-requires-clause-in_bounds : goal.copy_within-requires-clause-in_bounds
+copy_within-requires-clause-in_bounds c = omega (arith, two-devices _ _ _ c.in_ok-message.ensures.passes, c.in_ok-message.ensures.place)
+
+pub copy_within-requires-clause-dest_in_bounds : goal.copy_within-requires-clause-dest_in_bounds
+copy_within-requires-clause-dest_in_bounds c = omega (arith, two-devices _ _ _ c.in_ok-message.ensures.passes, c.heard_from-heard.ensures)
 
 pub age_of-requires : goal.age_of-requires
-age_of-requires c =
-    let passes : refusal c.args.net.now (deliver c.args.a c.args.b) ≡ 0 = sym (ap (of_z w32) c.message_refusal-code.ensures) ∙ c.if-code-ne0.false in
-    let two : Pair c.args.a c.args.b = two-devices _ _ _ passes in
-    let p = two in (omega arith, omega arith)
+age_of-requires c = let p = two-devices _ _ _ c.in_ok-message.ensures.passes in omega arith
 
-pub slice_set_of-net : goal.slice_set_of-net
-slice_set_of-net c =
-    let passes : refusal c.args.net.now (deliver c.args.a c.args.b) ≡ 0 = sym (ap (of_z w32) c.message_refusal-code.ensures) ∙ c.if-code-ne0.false in
-    let two : Pair c.args.a c.args.b = two-devices _ _ _ passes in
-    let p = two in omega (arith, c.age_of.ensures)
+pub bounds-net-age_of : goal.bounds-net-age_of
+bounds-net-age_of c = omega (arith, two-devices _ _ _ c.in_ok-message.ensures.passes, c.age_of.ensures)
 
 pub no_message-requires : goal.no_message-requires
 no_message-requires c =
-    let passes : refusal c.args.net.now (deliver c.args.a c.args.b) ≡ 0 = sym (ap (of_z w32) c.message_refusal-code.ensures) ∙ c.if-code-ne0.false in
-    let two : Pair c.args.a c.args.b = two-devices _ _ _ passes in
-    let p = two in
-    omega (arith, c.pending_to-at.ensures, length-set c.copy_row.new.net c.age_of.result (pos 0))
-
-pub shape_of-net : goal.shape_of-net
-shape_of-net c =
-    let m = c.copy_row.new.net in
-    c.net-2-1.given ∙ length-set m c.age_of.result (pos 0) ∙ c.net-1.given
+    omega (arith, two-devices _ _ _ c.in_ok-message.ensures.passes, c.in_ok-message.ensures.place, c.copy_within.ensures.len, length-set {A = ℤ})
 
 pub returns : goal.returns
 returns c =
-    let passes : refusal c.args.net.now (deliver c.args.a c.args.b) ≡ 0 = sym (ap (of_z w32) c.message_refusal-code.ensures) ∙ c.if-code-ne0.false in
-    let message = c.no_message in
-    let age = c.before.before.before.before in
-    let copied = age.before.before in
-    let from = copied.before.before in
-    let to = from.before in
-    let m = copied.copy_row.new.net in
-    carried-out _ _ _ _ passes
-    (λ main. message.ensures ∙ rw (store-one m age.age_of.result (pos 0), copied.copy_row.ensures, age.age_of.ensures, from.heard_from-heard.ensures, to.pending_to-at.ensures))
-    (λ main. c.answered-2.ensures)
+    let t = two-devices _ _ _ c.in_ok-message.ensures.passes in
+    let at = c.in_ok-message.message in
+    let heard = c.heard_from-heard.result in
+    let k = copied c.args.net.now (at + 1) (at + 16) (heard + 1) 15 (omega arith) (omega (arith, c.in_ok-message.ensures.place)) (omega (arith, c.heard_from-heard.ensures)) in
+    carried-out _ _ _ c.in_ok-message.ensures.passes
+    (λ main.
+    c.no_message.ensures
+    ∙ rw (store-one c.copy_within.new.self c.age_of.result (pos 0), c.copy_within.ensures.after, k, c.age_of.ensures, c.heard_from-heard.ensures, c.in_ok-message.ensures.place))
+    (λ main. refl)

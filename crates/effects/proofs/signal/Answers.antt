@@ -1,6 +1,6 @@
 -- `effects::signal` meets its contract. Assumes nothing.
-use mathlib.Core.Path.{◌≡◌, refl}
-use mathlib.Core.Bool.{true, false}
+use mathlib.Core.Path.{◌≡◌, refl, sym, ◌∙◌}
+use mathlib.Core.Bool.{true}
 use native.Mathlib.Omega.{arith}
 use borrow.Author.Rules.{sfits_of}
 use borrow.Author.Tests.{le-leb, lt-leb}
@@ -10,80 +10,39 @@ use mir.ValLaws.{to_z-of_z}
 use mir.Syntax.{w32}
 use mir.Val.{SFits}
 use Rattle.event.specs.Event.{signal}
-use Rattle.event.specs.Step.{is_device, out_of_range, sensors_of, digit_set}
+use Rattle.event.specs.Step.{out_of_range, sensors_of, digit_set}
 use Rattle.network.proofs.Stores.{store-one}
-use Rattle.event.proofs.Devices.{device}
-use Rattle.decide.proofs.Picks.{said-no, said-yes}
 use Rattle.effects.proofs.Refusals.{turned, carried-out, is-14, is-0}
-use Rattle.effects.proofs.Digit.{Plain, plain}
 use Rattle.effects.proofs.signal.Goals as goal
+use Rattle.effects.proofs.signal.Goals.{then-not-is_device-via-then-not-is_device, then-not-is_device-via-else-not-is_device+then-sensor-gt-LAST_SENSOR}
+use Rattle.effects.proofs.signal.Goals.{then-not-is_device-via-else-not-is_device+else-sensor-gt-LAST_SENSOR+then-switch-gt1}
 
 pub returns-then-not-is_device : goal.returns-then-not-is_device
-returns-then-not-is_device c = turned _ _ _ 14 (is-14 _ _ (rw (said-no c.is_device.ensures c.if-not-is_device.true-raw))) (λ z. omega arith) c.answered.ensures
-
-pub returns-then-sensor-gt15 : goal.returns-then-sensor-gt15
-returns-then-sensor-gt15 c =
-    let a-is : is_device c.args.a ≡ true = said-yes c.is_device.ensures c.if-not-is_device.false-raw in
-    turned _ _ _ 14 (is-14 _ _ (rw (a-is, lt-leb c.args.sensor 15 c.if-sensor-gt15.true))) (λ z. omega arith) c.answered-then-sensor-gt15.ensures
-
-pub returns-then-switch-gt1 : goal.returns-then-switch-gt1
-returns-then-switch-gt1 c =
-    let a-is : is_device c.args.a ≡ true = said-yes c.is_device.ensures c.if-not-is_device.false-raw in
-    turned _ _ _ 14 (is-14 _ _ (rw (
-      a-is,
-      le-leb c.args.sensor 15 c.if-sensor-gt15.false,
-      lt-leb
-          c.args.switch 1 c.if-switch-gt1.true,
-    ))) (λ z. omega arith) c.answered-then-switch-gt1.ensures
-
-pub sensors_of-at-requires : goal.sensors_of-at-requires
-sensors_of-at-requires c =
-    let a-is : is_device c.args.a ≡ true = said-yes c.is_device.ensures c.if-not-is_device.false-raw in
-    (device _ a-is).0
-
-pub slice_copy_out-digit_set : goal.slice_copy_out-digit_set
-slice_copy_out-digit_set c =
-    let a-is : is_device c.args.a ≡ true = said-yes c.is_device.ensures c.if-not-is_device.false-raw in
-    omega (arith, c.sensors_of-at.ensures, device c.args.a a-is)
-
-pub overflow_cast-net : goal.overflow_cast-net
-overflow_cast-net c =
-    let cell : ℤ = get_or c.args.net.now c.sensors_of-at.result (pos 0) in
-    let fits : SFits w32 cell = sfits_of c.digit_set-arg-1.given in
-    let lit : Plain cell = plain cell (rw c.sensors_of-at.ensures c.requires.1) c.digit_set-arg-1.given in
-    rw (to_z-of_z w32 cell fits) (lit.sign, omega (arith, lit.small))
-
-pub digit_set-requires : goal.digit_set-requires
-digit_set-requires c =
-    let cell : ℤ = get_or c.args.net.now c.sensors_of-at.result (pos 0) in
-    let fits : SFits w32 cell = sfits_of c.digit_set-arg-1.given in
-    let lit : Plain cell = plain cell (rw c.sensors_of-at.ensures c.requires.1) c.digit_set-arg-1.given in
-    rw (to_z-of_z w32 cell fits) (lit.small, c.if-sensor-gt15.false, c.if-switch-gt1.false)
-
-pub bounds-net-at : goal.bounds-net-at
-bounds-net-at c =
-    let a-is : is_device c.args.a ≡ true = said-yes c.is_device.ensures c.if-not-is_device.false-raw in
-    omega (
-      arith,
-      c.sensors_of-at.ensures,
-      device c.args.a
-          a-is,
-    )
+returns-then-not-is_device c =
+    let d = sym c.is_device.ensures in
+    let o : out_of_range (signal c.args.a c.args.sensor c.args.switch) ≡ true =
+    elim c.then-not-is_device.branch [
+      | then-not-is_device-via-then-not-is_device w ↦ (let e = d ∙ w.if-not-is_device.true in rw e)
+      | then-not-is_device-via-else-not-is_device+then-sensor-gt-LAST_SENSOR w ↦ (
+          let e = d ∙ w.if-not-is_device.false in
+          let p = lt-leb c.args.sensor 15 (omega arith) in
+          rw (e, p))
+      | then-not-is_device-via-else-not-is_device+else-sensor-gt-LAST_SENSOR+then-switch-gt1 w ↦ (
+          let e = d ∙ w.if-not-is_device.false in
+          let p = le-leb c.args.sensor 15 (omega arith) in
+          let q = lt-leb c.args.switch 1 (omega arith) in
+          rw (e, p, q))
+    ] in
+    turned _ _ _ (is-14 _ _ o)
 
 pub returns : goal.returns
 returns c =
-    let a-is : is_device c.args.a ≡ true = said-yes c.is_device.ensures c.if-not-is_device.false-raw in
-    let in-range : out_of_range (signal c.args.a c.args.sensor c.args.switch) ≡ false = rw (a-is, le-leb c.args.sensor 15 c.if-sensor-gt15.false, le-leb c.args.switch 1 c.if-switch-gt1.false) in
+    let e = sym c.is_device.ensures ∙ c.if-not-is_device.false in
+    let p = le-leb c.args.sensor 15 (omega arith) in
+    let q = le-leb c.args.switch 1 (omega arith) in
     let cell : ℤ = get_or c.args.net.now c.sensors_of-at.result (pos 0) in
     let fits : SFits w32 cell = sfits_of c.digit_set-arg-1.given in
-    let s = c.before.before.before.before.before.before.before.before in
-    carried-out _ _ _ _ (is-0 _ _ in-range refl refl)
-    (λ main. rw (
-      to_z-of_z w32 (pos c.digit_set.result) (record { sfits = c.digit_set.ensures.1 }),
-      c.digit_set.ensures.0,
-      to_z-of_z w32
-          cell fits,
-      c.sensors_of-at.ensures,
-    )
-    (store-one s.args.net.now (sensors_of s.args.a) (pos (digit_set s.args.sensor s.args.switch (nat_abs (get_or s.args.net.now (sensors_of s.args.a) (pos 0)))))))
-    (λ main. c.answered-2.ensures)
+    carried-out _ _ _ (is-0 _ _ (rw (e, p, q)) refl refl)
+    (λ main. rw (to_z-of_z w32 (pos c.digit_set.result) (record { sfits = c.digit_set.ensures.1 }), c.digit_set.ensures.0, to_z-of_z w32 cell fits, c.sensors_of-at.ensures)
+    (store-one c.args.net.now (sensors_of c.args.a) (pos (digit_set c.args.sensor c.args.switch (nat_abs (get_or c.args.net.now (sensors_of c.args.a) (pos 0)))))))
+    (λ main. refl)

@@ -13,27 +13,30 @@ use borrow.Author.Rules.{rules as given_rules, sfits_of}
 use borrow.Author.Tests.{lt-ltb}
 use Rattle.decide.proofs.Picks.{cond_yes, cond_no}
 use Rattle.number.specs.Number.{mark, eq_z}
-use Rattle.round.specs.Round.{State, number, sensed, reps, folded, is_true}
+use Rattle.field.specs.Field.{Field}
+use Rattle.round.specs.Round.{State, number, field, done, sending, sensed, reps, folded, is_true}
+use Rattle.heard.proofs.Fields.{range_cells, lag-cells}
 use Rattle.arith.proofs.Signs.{both_read}
-use Rattle.domain.specs.Held.{field_of}
+use Rattle.domain.specs.Held.{held}
 use Rattle.domain.specs.Members.{members}
-use Rattle.domain.proofs.Laws.{none_in, turned_none, turned-few, turned_more, turned-all}
+use Rattle.domain.proofs.Laws.{turned_none, turned-few, turned_more, turned-all}
 use Rattle.words.specs.Word.{count, word}
 use Rattle.words.specs.Trees.{tree_at}
 use Rattle.apply.specs.State.{state_of}
-use Rattle.apply.proofs.Laws.{state-variable, clear, goes, fails, gives, gave, passed, on-numbers, on-fields, numbers-read, stores, sends}
+use Rattle.apply.proofs.Laws.{state-variable, clear, goes, fails, gives, gave, passed, on-numbers, on-fields, numbers-named, stores, sends}
 use Rattle.apply.proofs.Folding.{along, fold-starts, fold-ends, fold-turns}
 use Rattle.leaf.proofs.Evaluates.{right, rules, field-rules, ev, ev-oper, ev-sense, ev-rep, ev-if, ev-mux, ev-fold, ev-foldop, ev-least, ev-folds, ev-bare, ev-first}
-use Rattle.leaf.proofs.Evaluates.{ev-nbr, ev-measure, ev-iff, ev-operf}
+use Rattle.leaf.proofs.Evaluates.{ev-nbr, ev-lag, ev-ranged, ev-iff, ev-operf}
 use Rattle.leaf.proofs.Evaluates.{second_none, second-there, third-none, third-there, fourth-read, no-argument}
 use Rattle.leaf.proofs.Asks.{asks, asks-field, asks-side, asks-arg, asks-call, asks-fold, asks-leaf, asks-pair, mask-of, either, fold-parts, by-operator}
 use Rattle.leaf.proofs.Numbers.{env-read, from-read, second-read, third-read, least-read, moved, same, other}
 use Rattle.evaluate.proofs.Body.{body_at}
+use Rattle.evaluate.proofs.+evaluator.Goals.{field_at-then-form-eq-LAG, field_at-else-form-eq-LAG}
 use Rattle.evaluate.proofs.+evaluator.Goals as goal
 
 -- argument
-pub argument-returns : goal.argument-returns
-argument-returns t c =
+pub argument-returns-else-there : goal.argument-returns-else-there
+argument-returns-else-there t c =
     gives (no-argument _ _ _ _ _ _ c.if-there.false) (gave refl refl c.requires.clear)
 
 -- call_at
@@ -169,15 +172,29 @@ field_at-returns-else-st-ne0-2 t c =
     c.field_side-r.ensures.as_field
     (either c.args.t.now c.first.ensures c.second.ensures ((field-rules c.requires).side z) c.field_side-l.ensures.sort
     c.field_side-r.ensures.sort))
-    c.field_op.ensures
+    (rw c.from.ensures at c.field_op.ensures)
 
-pub field_at-returns-in_default : goal.field_at-returns-in_default
-field_at-returns-in_default t c =
-    gives (ev-measure c.requires c.args.here.now c.args.env.now (state_of c.args.st.now) _ _ c.form_of-form.ensures c.item_of-in_default.ensures
-    (search given_rules) (search given_rules) (search given_rules))
-    c.measured_at.ensures
+pub field_at-returns-after-form-eq-LAG : goal.field_at-returns-after-form-eq-LAG
+field_at-returns-after-form-eq-LAG t c =
+    elim c.if-form-eq-LAG.branch [
+      | field_at-then-form-eq-LAG w ↦
+          gives (ev-lag c.requires c.args.here.now c.args.env.now (state_of c.args.st.now) (sym c.form_of-form.ensures ∙ w.if-form-eq-LAG.true) _ c.item_of-in_default.ensures
+          ∙ ap (λ (f : Field). done (field f) (sending c.item_of-in_default.result (pos 0) (state_of c.args.st.now))) (lag-cells c.args.here.now c.item_of-in_default.result))
+          (rw w.measure-is at c.measured_at.ensures)
+      | field_at-else-form-eq-LAG w ↦
+          gives (ev-ranged c.requires c.args.here.now c.args.env.now (state_of c.args.st.now) _ _ c.form_of-form.ensures c.item_of-in_default.ensures
+          (search given_rules) w.if-form-eq-LAG.false (search given_rules) (search given_rules)
+          ∙ ap (λ (f : Field). done (field f) (sending c.item_of-in_default.result (pos 0) (state_of c.args.st.now))) (range_cells c.args.here.now c.item_of-in_default.result))
+          (rw w.measure-is at c.measured_at.ensures)
+    ]
 
 -- field_if_at
+pub field_if_at-bounds-u-b : goal.field_if_at-bounds-u-b
+field_if_at-bounds-u-b t c = let r = (field-rules c.requires.0).if_f c.requires.1 in omega (arith, c.third-b.ensures, c.requires.0.inside, r.2.0)
+
+pub field_if_at-bounds-u-a : goal.field_if_at-bounds-u-a
+field_if_at-bounds-u-a t c = let r = (field-rules c.requires.0).if_f c.requires.1 in omega (arith, c.second-a.ensures, c.requires.0.inside, r.1.0)
+
 pub field_if_at-operand-x-requires : goal.field_if_at-operand-x-requires
 field_if_at-operand-x-requires t c =
     asks 3 c.decreases c.requires.0.sound c.requires.0.inside c.first.ensures c.requires.0.clear
@@ -189,21 +206,11 @@ field_if_at-returns-then-st-ne0 t c =
     (ev-iff c.requires.0 c.args.here.now c.args.env.now (state_of c.args.st.now) c.requires.1 _ _ _ c.first.ensures refl refl)
     (fails _ _ c.operand-x.ensures c.if-st-ne0.true)
 
-pub field_if_at-bounds-u-k : goal.field_if_at-bounds-u-k
-field_if_at-bounds-u-k t c =
-    let r = (field-rules c.requires.0).if_f c.requires.1 in
-    omega (arith, c.third-b.ensures, c.requires.0.inside, r.2.0)
-
 pub field_if_at-field_at-requires : goal.field_if_at-field_at-requires
 field_if_at-field_at-requires t c =
     asks-field 3 c.decreases c.requires.0.sound c.requires.0.inside c.second-a.ensures
     (c.erase.ensures.fault ∙ clear c.operand-x.new.st (search given_rules) c.if-st-ne0.false)
     ((field-rules c.requires.0).if_f c.requires.1).1
-
-pub field_if_at-bounds-u-k-else-is_true : goal.field_if_at-bounds-u-k-else-is_true
-field_if_at-bounds-u-k-else-is_true t c =
-    let r = (field-rules c.requires.0).if_f c.requires.1 in
-    omega (arith, c.second-a.ensures, c.requires.0.inside, r.1.0)
 
 pub field_if_at-field_at-requires-else-is_true : goal.field_if_at-field_at-requires-else-is_true
 field_if_at-field_at-requires-else-is_true t c =
@@ -275,12 +282,12 @@ fold_at-returns-then-form-eq-LEAST t c =
     c.first.ensures c.second.ensures
     ∙ goes _ c.operand-x.ensures (search given_rules) c.if-st-ne0.false
     ∙ goes _ c.field_at-f.ensures (search given_rules) c.if-st-ne0-2.false
-    ∙ least-read _ c.operand-x.result _ (sfits_of c.operand-x.type_inv) c.fold_least-walk.ensures.0 _)
-    (gave (ap number (sym (to_z-of_z w32 c.fold_least-walk.result.value (search given_rules)))) refl
+    ∙ least-read _ c.operand-x.result _ (sfits_of c.operand-x.type_inv) c.fold_least.ensures.0 _)
+    (gave (ap number (sym (to_z-of_z w32 c.fold_least.result.value (search given_rules)))) refl
     (clear c.field_at-f.new.st (search given_rules) c.if-st-ne0-2.false))
 
-pub fold_at-fold_by-walk-requires : goal.fold_at-fold_by-walk-requires
-fold_at-fold_by-walk-requires t c =
+pub fold_at-fold_by-requires : goal.fold_at-fold_by-requires
+fold_at-fold_by-requires t c =
     asks-fold 2 c.decreases c.requires.0.sound c.requires.0.inside c.body_of.ensures
     (clear c.field_at-f.new.st (search given_rules) c.if-st-ne0-2.false) (lit< tt)
     ((rules c.requires.0).fold_by (sym c.form_of-form.ensures ∙ c.if-form-eq-FOLD_BY.true)).0
@@ -292,7 +299,7 @@ fold_at-returns-then-form-eq-FOLD_BY t c =
     c.body_of.ensures c.first.ensures c.second.ensures
     ∙ goes _ c.operand-x.ensures (search given_rules) c.if-st-ne0.false
     ∙ goes _ c.field_at-f.ensures (search given_rules) c.if-st-ne0-2.false)
-    (passed (search given_rules) (from-read _ _ _ c.operand-x.result (sfits_of c.operand-x.type_inv) c.fold_by-walk.ensures.leaves))
+    (passed (search given_rules) (from-read _ _ _ c.operand-x.result (sfits_of c.operand-x.type_inv) c.fold_by.ensures.leaves))
 
 pub fold_at-returns : goal.fold_at-returns
 fold_at-returns t c =
@@ -302,60 +309,62 @@ fold_at-returns t c =
     c.item_of.ensures c.first.ensures c.second.ensures
     ∙ goes _ c.operand-x.ensures (search given_rules) c.if-st-ne0.false
     ∙ goes _ c.field_at-f.ensures (search given_rules) c.if-st-ne0-2.false)
-    (passed (search given_rules) (from-read _ _ _ c.operand-x.result (sfits_of c.operand-x.type_inv) c.fold_op-walk.ensures.leaves))
+    (passed (search given_rules) (from-read _ _ _ c.operand-x.result (sfits_of c.operand-x.type_inv) (rw c.from.ensures at c.fold_op.ensures.leaves)))
 
 -- fold_by
-pub fold_by-loop-left-init : goal.fold_by-loop-left-init
-fold_by-loop-left-init t c = (
-  sym (fold-starts (body_at c.args.t.now c.args.e c.args.here.now) c.args.dom.bits c.args.cells.now _ (state_of c.args.st.now)),
-  turned_none c.args.dom.bits,
-  c.requires.0.clear,
-)
+pub fold_by-loop-k-init : goal.fold_by-loop-k-init
+fold_by-loop-k-init t c =
+    let e = c.into_iter-k-iterator.ensures.into_iter_gives in
+    (rw e (sym (fold-starts (body_at c.args.t.now c.args.e c.args.here.now) _ _ _ _)), rw e (turned_none _), c.requires.0.clear)
 
 pub fold_by-overflow_add-turns : goal.fold_by-overflow_add-turns
-fold_by-overflow_add-turns t c =
-    record { fits = omega (arith, turned-few c.args.dom.bits c.loop-left.left.bits c.loop-left.turns c.loop-left.invariant.1) }
+fold_by-overflow_add-turns t c = record { fits = omega (arith, turned-few _ _ _ c.loop-k.invariant.1) }
 
 pub fold_by-returns-then-st-ne0 : goal.fold_by-returns-then-st-ne0
 fold_by-returns-then-st-ne0 t c =
-    let from = ap (λ (p : ℤ). folded (body_at c.args.t.now c.args.e c.args.here.now) (field_of c.args.dom.bits c.args.cells.now) p (state_of c.args.st.now))
+    let from = ap (λ (p : ℤ). folded (body_at c.args.t.now c.args.e c.args.here.now) (held c.args.field.now) p (state_of c.args.st.now))
     (sym (to_z-of_z w32 c.args.from c.ranges.from)) in
-    let fault = fails _ _ (second-read _ _ _ (to_z w32 c.loop-left.acc-bits) (get_or c.args.cells.now c.lowest-k.result (pos 0)) (search given_rules)
-    c.call-acc.ensures) c.if-st-ne0.true in
+    let fault = fails _ _ (second-read _ _ _ (to_z w32 c.loop-k.value-bits) (get_or c.args.field.now.cells c.in-Some.k (pos 0)) (search given_rules)
+    c.call-value.ensures) c.if-st-ne0.true in
     record {
-      leaves = gives (from ∙ sym c.loop-left.invariant.0
-          ∙ fold-turns (body_at c.args.t.now c.args.e c.args.here.now) c.loop-left.left.bits c.args.cells.now (to_z w32 c.loop-left.acc-bits) (state_of c.loop-left.st)
-          c.rest-left.result.bits c.lowest-k.result _ c.lowest-k.ensures.1 c.rest-left.ensures.1) fault;
+      leaves = gives (from ∙ sym c.loop-k.invariant.0
+          ∙ fold-turns (body_at c.args.t.now c.args.e c.args.here.now) _ c.args.field.now.cells (to_z w32 c.loop-k.value-bits) (state_of c.loop-k.st)
+          _ _ c.in-Some.ensures.steps.1) fault;
       turns = λ e. absurd (c.if-st-ne0.true (ap (of_z w32) e));
     }
 
-pub fold_by-loop-left-preserved : goal.fold_by-loop-left-preserved
-fold_by-loop-left-preserved t c = (
-  ap (λ (p : ℤ). along (body_at c.args.t.now c.args.e c.args.here.now) (members c.rest-left.result.bits) c.args.cells.now p
-      (state_of c.call-acc.new.st)) (to_z-of_z w32 c.call-acc.result (sfits_of c.call-acc.type_inv))
-      ∙ sym (fold-turns (body_at c.args.t.now c.args.e c.args.here.now) c.loop-left.left.bits c.args.cells.now (to_z w32 c.loop-left.acc-bits)
-      (state_of c.loop-left.st) c.rest-left.result.bits c.lowest-k.result _ c.lowest-k.ensures.1 c.rest-left.ensures.1
-      ∙ goes _ (second-read _ _ _ (to_z w32 c.loop-left.acc-bits) (get_or c.args.cells.now c.lowest-k.result (pos 0)) (search given_rules) c.call-acc.ensures)
+pub fold_by-loop-k-preserved : goal.fold_by-loop-k-preserved
+fold_by-loop-k-preserved t c = (
+  ap (λ (p : ℤ). along (body_at c.args.t.now c.args.e c.args.here.now) (members c.next.new.self.bits) c.args.field.now.cells p
+      (state_of c.call-value.new.st)) (to_z-of_z w32 c.call-value.result (sfits_of c.call-value.type_inv))
+      ∙ sym (fold-turns (body_at c.args.t.now c.args.e c.args.here.now) _ c.args.field.now.cells (to_z w32 c.loop-k.value-bits)
+      (state_of c.loop-k.st) _ _ c.in-Some.ensures.steps.1
+      ∙ goes _ (second-read _ _ _ (to_z w32 c.loop-k.value-bits) (get_or c.args.field.now.cells c.in-Some.k (pos 0)) (search given_rules) c.call-value.ensures)
       (search given_rules) c.if-st-ne0.false)
-      ∙ c.loop-left.invariant.0,
-  turned_more c.args.dom.bits c.loop-left.left.bits c.loop-left.turns c.loop-left.invariant.1 c.rest-left.result.bits _ c.rest-left.ensures.1,
-  clear c.call-acc.new.st (search given_rules) c.if-st-ne0.false,
+      ∙ c.loop-k.invariant.0,
+  turned_more _ _ _ c.loop-k.invariant.1 _ _ c.in-Some.ensures.steps.1,
+  clear c.call-value.new.st (search given_rules) c.if-st-ne0.false,
 )
 
 pub fold_by-returns : goal.fold_by-returns
 fold_by-returns t c =
-    let from = ap (λ (p : ℤ). folded (body_at c.args.t.now c.args.e c.args.here.now) (field_of c.args.dom.bits c.args.cells.now) p (state_of c.args.st.now))
+    let from = ap (λ (p : ℤ). folded (body_at c.args.t.now c.args.e c.args.here.now) (held c.args.field.now) p (state_of c.args.st.now))
     (sym (to_z-of_z w32 c.args.from c.ranges.from)) in
-    let none = none_in c.loop-left.left.bits (omega (arith, c.loop-left-test.false)) in
     record {
-      leaves = gives (from ∙ sym c.loop-left.invariant.0
-          ∙ fold-ends (body_at c.args.t.now c.args.e c.args.here.now) c.loop-left.left.bits c.args.cells.now (to_z w32 c.loop-left.acc-bits) (state_of c.loop-left.st)
-          none)
-          (gave refl refl c.loop-left.invariant.2);
-      turns = λ e. turned-all c.args.dom.bits c.loop-left.left.bits c.loop-left.turns c.loop-left.invariant.1 none c.args.cells.now;
+      leaves = gives (from ∙ sym c.loop-k.invariant.0
+          ∙ fold-ends (body_at c.args.t.now c.args.e c.args.here.now) _ c.args.field.now.cells (to_z w32 c.loop-k.value-bits) (state_of c.loop-k.st)
+          c.in-None.ensures.steps.0)
+          (gave refl refl c.loop-k.invariant.2);
+      turns = λ e. turned-all _ _ _ c.loop-k.invariant.1 c.in-None.ensures.steps.0 c.args.field.now.cells;
     }
 
 -- if_at
+pub if_at-bounds-u-b : goal.if_at-bounds-u-b
+if_at-bounds-u-b t c = let r = (rules c.requires.0).if_n c.requires.1 in omega (arith, c.third-b.ensures, c.requires.0.inside, r.2.0)
+
+pub if_at-bounds-u-a : goal.if_at-bounds-u-a
+if_at-bounds-u-a t c = let r = (rules c.requires.0).if_n c.requires.1 in omega (arith, c.second-a.ensures, c.requires.0.inside, r.1.0)
+
 pub if_at-operand-x-requires : goal.if_at-operand-x-requires
 if_at-operand-x-requires t c =
     asks 3 c.decreases c.requires.0.sound c.requires.0.inside c.first.ensures c.requires.0.clear
@@ -367,21 +376,11 @@ if_at-returns-then-st-ne0 t c =
     (ev-if c.requires.0 c.args.here.now c.args.env.now (state_of c.args.st.now) c.requires.1 _ _ _ c.first.ensures refl refl)
     (fails _ _ c.operand-x.ensures c.if-st-ne0.true)
 
-pub if_at-bounds-u-j : goal.if_at-bounds-u-j
-if_at-bounds-u-j t c =
-    let r = (rules c.requires.0).if_n c.requires.1 in
-    omega (arith, c.third-b.ensures, c.requires.0.inside, r.2.0)
-
 pub if_at-operand-requires : goal.if_at-operand-requires
 if_at-operand-requires t c =
     asks 3 c.decreases c.requires.0.sound c.requires.0.inside c.second-a.ensures
     (c.erase.ensures.fault ∙ clear c.operand-x.new.st (search given_rules) c.if-st-ne0.false)
     ((rules c.requires.0).if_n c.requires.1).1
-
-pub if_at-bounds-u-j-else-is_true : goal.if_at-bounds-u-j-else-is_true
-if_at-bounds-u-j-else-is_true t c =
-    let r = (rules c.requires.0).if_n c.requires.1 in
-    omega (arith, c.second-a.ensures, c.requires.0.inside, r.1.0)
 
 pub if_at-operand-requires-else-is_true : goal.if_at-operand-requires-else-is_true
 if_at-operand-requires-else-is_true t c =
@@ -512,8 +511,8 @@ mux_at-returns-then-is_true t c =
     ∙ sym (to_z-of_z w32 c.operand-y.result (sfits_of c.operand-y.type_inv)))) refl
     (clear c.operand-x.new.st (search given_rules) c.if-st-ne0-3.false))
 
-pub mux_at-returns : goal.mux_at-returns
-mux_at-returns t c =
+pub mux_at-returns-else-is_true : goal.mux_at-returns-else-is_true
+mux_at-returns-else-is_true t c =
     gives
     (ev-mux c.requires.0 c.args.here.now c.args.env.now (state_of c.args.st.now) c.requires.1 _ _ _ c.first.ensures c.second.ensures
     c.third.ensures
@@ -599,7 +598,7 @@ operator_at-returns t c =
     ∙ goes _ c.number_side-y.ensures (search given_rules) c.if-st-ne0-2.false
     ∙ on-numbers _ _ _ _ _)
     (passed (sfits_of c.number_op.type_inv)
-    (numbers-read _ _ _ c.number_side-x.result c.number_side-y.result (sfits_of c.number_side-x.type_inv)
+    (numbers-named _ c.from.result c.item_of.result _ c.number_side-x.result c.number_side-y.result c.from.ensures (sfits_of c.number_side-x.type_inv)
     (sfits_of c.number_side-y.type_inv) c.number_op.ensures))
 
 -- rep_at

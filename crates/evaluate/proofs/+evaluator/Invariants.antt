@@ -1,7 +1,7 @@
 -- What falls at each call within the evaluator's cycle, 8 for each node and the rank of the function below it, and what the fold keeps in its loop.
 use Rattle.std.proofs.Common.{◌≡◌, pos, ◌+◌, ◌*◌}
 use Rattle.round.specs.Round.{folded}
-use Rattle.domain.specs.Held.{field_of}
+use Rattle.domain.specs.Held.{held}
 use Rattle.domain.specs.Members.{members}
 use Rattle.domain.proofs.Laws.{Turned}
 use Rattle.apply.specs.State.{state_of, fault_of}
@@ -66,12 +66,9 @@ decreases-rep_at l = l.n * 8 + 2
 abbrev pub decreases-sense_at : goal.decreases-sense_at
 decreases-sense_at l = l.n * 8 + 2
 
-abbrev pub invariant-fold_by-loop-left : goal.invariant-fold_by-loop-left
-invariant-fold_by-loop-left l =
-    (along (body_at l.t l.e l.here) (members l.left.bits) l.cells l.acc (state_of l.st)
-    ≡ folded (body_at l.t l.e l.here) (field_of l.initial.left.bits l.cells) l.from (state_of l.initial.st))
-    × Turned l.initial.left.bits l.left.bits l.turns
+abbrev pub invariant-fold_by-loop-k : goal.invariant-fold_by-loop-k
+invariant-fold_by-loop-k l =
+    (along (body_at l.t l.e l.here) (members l.k-iterator.bits) l.field.cells l.value (state_of l.st)
+    ≡ folded (body_at l.t l.e l.here) (held l.field) l.from (state_of l.initial.st))
+    × Turned l.field.dom.bits l.k-iterator.bits l.turns
     × (fault_of l.st ≡ pos 0)
-
-abbrev pub decreases-fold_by-loop-left : goal.decreases-fold_by-loop-left
-decreases-fold_by-loop-left l = l.left.bits

@@ -1,13 +1,7 @@
--- `fading::any_fades` keeps this in its loops.
-use mathlib.Core.Path.{◌≡◌}
-use mathlib.Core.Bool.{true}
-use Prim.Native.Nat.{◌-◌, ◌≤◌}
-use lib.Dec.{eqb}
+-- `fading::any_fades` keeps this in its loop.
+use Rattle.std.proofs.Common.{◌≡◌, false}
 use Rattle.fading.specs.Fading.{NoneFades}
 use Rattle.fading.proofs.any_fades.Given as goal
 
-abbrev pub invariant-loop-b : goal.invariant-loop-b
-invariant-loop-b l = (l.b ≤ 16) × (eqb l.any 0 ≡ true → NoneFades l.net l.at l.b)
-
-abbrev pub decreases-loop-b : goal.decreases-loop-b
-decreases-loop-b l = 16 - l.b
+abbrev pub invariant-loop-age : goal.invariant-loop-age
+invariant-loop-age l = l.any ≡ false → NoneFades l.ages l.age-index

@@ -1,61 +1,33 @@
 -- `fire::begin` meets its contract. Assumes nothing.
-use mathlib.Core.Path.{◌≡◌, refl, sym, ap, ◌∙◌}
-use mathlib.Core.List.{List}
-use Prim.Native.Nat.{ℕ, ◌+◌, ◌-◌, ◌<◌, ◌≤◌}
+use mathlib.Core.Path.{◌≡◌, ap, ◌∙◌}
+use mathlib.Core.List.{List, ◌++◌}
+use Prim.Native.Nat.{◌≤◌}
 use native.Mathlib.Omega.{arith}
-use native.Mathlib.Numerals.{add-one}
-use borrow.Author.Rules.{sfits_of}
-use lib.ListN.{length, get_or, take, drop, set, replicate, length-set, length-drop, replicate-append-replicate}
-use lib.Seq.{take-suc-set, take-set-le, drop-set-lt, drop-set-add, get_or-set_same}
-use mir.Syntax.{w32}
-use mir.Facts.{to_z-of_z}
+use borrow.Rule.Slice.PartMut.{put_mid}
+use lib.ListN.{length, take, drop, set, replicate, length-append, length-take, length-drop, length-replicate}
+use lib.Seq.{take-set-le, drop-set-add, get_or-set_same, take_at}
 use lib.IntN.{ℤ, pos}
+use Rattle.std.proofs.lemmas.Slice.{take-put_mid_below, between-put_mid}
 use Rattle.number.specs.Number.{mark}
-use Rattle.apply.specs.State.{state_size, sent_at, fault_at, state_of, fault_of}
-use Rattle.apply.proofs.Laws.{fault-kept}
-use Rattle.fire.proofs.Rows.{front-more}
-use Rattle.fire.proofs.begin.Invariants.{Filled}
+use Rattle.apply.specs.State.{state_size, state_of}
+use Rattle.fire.specs.Fires.{Begun}
 use Rattle.fire.proofs.begin.Goals as goal
 
-one_more : (here st : List ℤ) (i : ℕ) (v : ℤ) → i < 16 → i < length here → v ≡ get_or here i (pos 0) → Filled here st i → Filled here (set (set st i v) (sent_at + i) mark) (i + 1)
-one_more here st i v h k e f =
-    let w : length (set st i v) ≡ state_size = length-set st i v ∙ f.whole in
-    let d : drop sent_at (set (set st i v) (sent_at + i) mark) ≡ set (drop sent_at st) i mark = drop-set-add sent_at (set st i v) i mark ∙ rw (drop-set-lt sent_at st i v h) in
-    record {
-      near = omega arith;
-      whole = length-set (set st i v) (sent_at + i) mark ∙ w;
-      variables = take-set-le (i + 1) (set st i v) (sent_at + i) mark (omega arith) ∙ front-more st here i (pos 0) v (omega (arith, f.whole)) k e f.variables;
-      silent =
-          ap (take (i + 1)) d
-          ∙ (ap (λ (k : ℕ). take k (set (drop sent_at st) i mark)) (add-one i)
-          ∙ (take-suc-set (drop sent_at st) i mark (simp length-drop (omega (arith, f.whole))) ∙ rw f.silent (replicate-append-replicate i 1 mark)));
-      clear = fault-kept (set st i v) (sent_at + i) mark (omega arith) ∙ (fault-kept st i v (omega arith) ∙ f.clear);
-    }
-
-pub loop-i-init : goal.loop-i-init
-loop-i-init c =
-    record {
-      near = omega arith;
-      whole = length-set c.args.st.now fault_at (pos 0) ∙ c.requires.1;
-      variables = refl;
-      silent = refl;
-      clear = get_or-set_same c.args.st.now fault_at (pos 0) (pos 0) (omega (arith, c.requires.1));
-    }
-
-pub slice_set_of-st-in-loop-i : goal.slice_set_of-st-in-loop-i
-slice_set_of-st-in-loop-i c = simp length-set (omega (arith, c.loop-i.invariant.whole, c.loop-i-test.true))
-
-pub loop-i-preserved : goal.loop-i-preserved
-loop-i-preserved c =
-    let l = c.loop-i in
-    one_more c.args.here.now l.st l.i _ c.loop-i-test.true (omega (arith, c.requires.0, c.loop-i-test.true)) (to_z-of_z {w = w32} (sfits_of c.st-1.given)) l.invariant
-
-pub shape_of-st : goal.shape_of-st
-shape_of-st c = c.loop-i.invariant.whole ∙ sym c.requires.1
+begun : (here st u v : List ℤ) → length st ≡ state_size → 16 ≤ length here → u ≡ take 16 here
+    → v ≡ replicate (length (take 16 (drop 16 (u ++ drop 16 st)))) mark → Begun here (set (put_mid 16 16 (u ++ drop 16 st) v) 32 (pos 0))
+unfolding state_of
+begun here st u v h k p r =
+    let lu : length u ≡ 16 = ap length p ∙ simp length-take (omega arith) in
+    let e : length (take 16 (drop 16 (u ++ drop 16 st))) ≡ 16 = simp (length-take, length-drop, length-append) (omega arith) in
+    let q : v ≡ replicate 16 mark = rw e at r in
+    let lv : length v ≡ 16 = ap length q ∙ length-replicate 16 mark in
+    let m : List ℤ = put_mid 16 16 (u ++ drop 16 st) v in
+    let front : take 16 (set m 32 (pos 0)) ≡ take 16 here =
+    take-set-le 16 m 32 (pos 0) (omega arith) ∙ (take-put_mid_below 16 16 (u ++ drop 16 st) v 16 (omega arith) (omega (arith, length-append u (drop 16 st))) ∙ (take_at u (drop 16 st) 16 lu ∙ p)) in
+    let back : take 16 (drop 16 (set m 32 (pos 0))) ≡ replicate 16 mark =
+    ap (take 16) (drop-set-add 16 m 16 (pos 0))
+    ∙ (take-set-le 16 (drop 16 m) 16 (pos 0) (omega arith) ∙ (between-put_mid 16 16 (u ++ drop 16 st) v 32 (omega (arith, length-append u (drop 16 st))) lv ∙ q)) in
+    record { state = rw (front, back); clear = get_or-set_same m 32 (pos 0) (pos 0) (simp (length-append, length-take, length-drop) (omega arith)) }
 
 pub returns : goal.returns
-unfolding state_of
-returns c =
-    let f = c.loop-i.invariant in
-    let e : c.loop-i.i ≡ 16 = omega (arith, f.near) in
-    record { state = rw (← (rw e at f.variables), ← (rw e at f.silent)); clear = f.clear }
+returns c = begun c.args.here.now c.args.st.now _ _ (omega arith) (omega arith) c.copy_from_slice.ensures.after (c.fill.ensures.after (λ y e. e))

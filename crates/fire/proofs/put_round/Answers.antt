@@ -18,9 +18,8 @@ pub put_messages-requires : goal.put_messages-requires
 put_messages-requires c =
     let k : length (row c.args.st.now 0 16) ≤ 16 = omega (arith, length-take 16 (drop 0 c.args.st.now)) in (
       search rules,
-      search rules,
       λ b h. idle-behind _ _ _ c.args.at (c.args.at + pending_at 1 + 16 * b) c.copy.ensures (omega arith)
-          (idle-older c.args.net.now _ c.args.at b c.requires.0 h c.pass_round.ensures (c.requires.2 b h)),
+          (idle-older c.args.net.now _ c.args.at b c.requires.0 h c.pass_round.ensures (c.requires.1 b h)),
     )
 
 pub returns : goal.returns

@@ -1,10 +1,6 @@
--- `fronts::count_front` keeps this in its loops.
-use Prim.Native.Nat.{◌-◌}
+-- `fronts::count_front` keeps this in its loop.
 use Rattle.fronts.proofs.Turns.{Counted}
 use Rattle.fronts.proofs.count_front.Given as goal
 
 abbrev pub invariant-loop-i : goal.invariant-loop-i
-invariant-loop-i l = Counted l.s l.a l.b l.n l.i
-
-abbrev pub decreases-loop-i : goal.decreases-loop-i
-decreases-loop-i l = l.b - l.i
+invariant-loop-i l = Counted l.w l.n l.i

@@ -1,14 +1,7 @@
--- `heard::measured` keeps this in its loops.
-use mathlib.Core.Path.{◌≡◌}
-use Prim.Native.Nat.{ℕ, ◌-◌, ◌<◌, ◌≤◌}
-use Rattle.heard.specs.Present.{is_measured}
-use Rattle.domain.specs.Members.{built}
-use Rattle.domain.proofs.Fields.{Filled}
-use Rattle.heard.proofs.Fields.{cell_at, measure_at}
+-- `heard::measured` keeps this in its loop.
+use Rattle.std.proofs.Common.{ℕ, ◌<◌, ◌≡◌, length, get_or, pos}
+use Rattle.heard.proofs.Fields.{measured_at}
 use Rattle.heard.proofs.measured.Given as goal
 
 abbrev pub invariant-loop-b : goal.invariant-loop-b
-invariant-loop-b l = (l.b ≤ 16) × Filled (measure_at l.here l.from l.by) l.b l.cells × (l.dom ≡ built (λ (j : ℕ). is_measured (cell_at l.here l.slot j) (measure_at l.here l.from l.by j)) l.b) × (l.dom < 65536)
-
-abbrev pub decreases-loop-b : goal.decreases-loop-b
-decreases-loop-b l = 16 - l.b
+invariant-loop-b l = (length l.cells ≡ 16) × ((k : ℕ) → k < l.b → get_or l.cells k (pos 0) ≡ measured_at l.here l.slot l.measure.from l.measure.by k)

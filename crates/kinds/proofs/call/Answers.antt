@@ -1,37 +1,38 @@
 -- `kinds::call` meets its contract. Assumes nothing.
-use Rattle.kinds.proofs.Fields.{call-cut, call-undefined, call-wrong, call-alone, call-read}
-use mathlib.Core.Path.{refl}
-use native.Mathlib.Omega.{arith}
+use Rattle.std.proofs.Common.{◌≡◌, ℕ, ◌≤◌, length, get_or, rules, arith, refl, ◌∙◌, ap}
+use Rattle.std.proofs.lemmas.Bool.{lt-leb}
+use Rattle.std.proofs.Math.ListN.{length-drop}
+use Rattle.std.specs.Prelude.{Err}
+use Rattle.shapes.proofs.Inside.{definition-in}
+use Rattle.kinds.proofs.Fields.{behind, length-behind, wrong-length, body-refused, read, child-refused, children-last, byte-parts, call-cut, call-undefined, call-shaped}
 use Rattle.kinds.proofs.call.Goals as goal
 
-pub returns-then-b-lt2 : goal.returns-then-b-lt2
-returns-then-b-lt2 c = λ slots kept. call-cut c.requires.1 _ c.requires.0 c.if-b-lt2.true c.no_node.ensures
-
-pub overflow_cast-d : goal.overflow_cast-d
-overflow_cast-d c = omega (arith, c.shared_slice_known-2-1.given 1)
+pub returns-in_default : goal.returns-in_default
+returns-in_default c = λ slots kept. call-cut c.requires.0 c.args.s.now c.in_default.len_below
 
 pub returns-then-defs-d : goal.returns-then-defs-d
-returns-then-defs-d c =
-    λ slots kept. call-undefined c.requires.1 _ c.requires.0 c.if-b-lt2.false c.if-defs-d.true c.no_node-then-defs-d.ensures
+returns-then-defs-d c = λ slots kept. call-undefined c.requires.0 c.args.s.now c.in-len1-up.len_at_least (omega arith)
 
-pub bounds-counts-d : goal.bounds-counts-d
-bounds-counts-d c = omega (arith, c.shared_slice_known-2-1.given 1)
+pub returns-then-children-from : goal.returns-then-children-from
+returns-then-children-from c =
+    let few : get_or c.args.counts.now (get_or c.args.s.now 0 0) 0 ≤ 4 = c.requires.2 _ (omega arith) in
+    λ slots kept. wrong-length (call-shaped c.args.s.now c.requires.0 c.in-len1-up.len_at_least (omega arith) few)
+    (λ z. c.if-children-from.true (ap length (behind c.args.s.now) ∙ omega (arith, length-drop 1 c.args.s.now, c.from.ensures, ap (λ (d : ℕ). get_or c.args.counts.now d 0) c.from-d.ensures)))
 
-pub overflow_cast-k-2 : goal.overflow_cast-k-2
-overflow_cast-k-2 c = omega (arith, c.requires.3 _ c.if-defs-d.false)
-
-pub overflow_add-k : goal.overflow_add-k
-overflow_add-k c = omega (arith, c.requires.3 _ c.if-defs-d.false)
-
-pub returns-then-b-k : goal.returns-then-b-k
-returns-then-b-k c =
-    λ slots kept. call-wrong c.requires.1 c.requires.3 _ c.requires.0 c.if-b-lt2.false c.if-defs-d.false c.if-b-k.true c.no_node-then-b-k.ensures
-
-pub returns-then-k-eq0 : goal.returns-then-k-eq0
-returns-then-k-eq0 c =
-    λ slots kept. call-alone c.requires.1 c.requires.3 _ c.requires.0 c.if-b-lt2.false c.if-defs-d.false c.if-k-eq0.true c.if-b-k.false c.given.ensures
+pub returns-in_err-children : goal.returns-in_err-children
+returns-in_err-children c =
+    let few : get_or c.args.counts.now (get_or c.args.s.now 0 0) 0 ≤ 4 = c.requires.2 _ (omega arith) in
+    let k = c.from.ensures ∙ ap (λ (d : ℕ). get_or c.args.counts.now d 0) c.from-d.ensures in
+    let r : c.from_residual.result ≡ Err c.in_err-children.field-0.0 = search rules in
+    λ slots kept. rw r (body-refused (call-shaped c.args.s.now c.requires.0 c.in-len1-up.len_at_least (omega arith) few)
+    (byte-parts c.args.s.now refl refl refl (behind c.args.s.now) (length-behind c.args.s.now c.in-len1-up.len_at_least (c.if-children-from.false ∙ k)))
+    (child-refused definition-in.is (lt-leb _ _ (omega arith)) c.in_err-children.ensures))
 
 pub returns : goal.returns
 returns c =
-    λ slots kept. call-read c.requires.1 c.requires.3 _ c.requires.0 c.if-b-lt2.false c.if-defs-d.false refl c.if-b-k.false c.get.ensures c.get-2.ensures
-    c.get-3.ensures c.get-4.ensures c.children-e.ensures refl
+    let few : get_or c.args.counts.now (get_or c.args.s.now 0 0) 0 ≤ 4 = c.requires.2 _ (omega arith) in
+    let k = c.from.ensures ∙ ap (λ (d : ℕ). get_or c.args.counts.now d 0) c.from-d.ensures in
+    λ slots kept. read (call-shaped c.args.s.now c.requires.0 c.in-len1-up.len_at_least (omega arith) few)
+    (byte-parts c.args.s.now refl refl refl (behind c.args.s.now) (length-behind c.args.s.now c.in-len1-up.len_at_least (c.if-children-from.false ∙ k))) refl
+    (children-last definition-in.is (lt-leb _ _ (omega arith)) c.in_ok-children.ensures refl refl)
+    c.node.ensures

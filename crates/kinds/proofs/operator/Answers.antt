@@ -1,20 +1,35 @@
 -- `kinds::operator` meets its contract. Assumes nothing.
-use mathlib.Core.Path.{refl}
-use native.Mathlib.Omega.{arith}
+use Rattle.std.proofs.Common.{◌≡◌, rules, arith, refl}
+use Rattle.std.specs.Prelude.{Err}
+use Rattle.verdict.specs.declared.Reason.TheVariants.{BadField}
+use Rattle.shapes.proofs.ByKind.{kind-of-number}
 use Rattle.shapes.proofs.Inside.{operator-out, operator-in}
-use Rattle.kinds.proofs.Fields.{wrong_size, body_refused, read, out_of_range, children-last, item-2-parts}
+use Rattle.kinds.proofs.Fields.{shaped, wrong-length, body-refused, read, out_of_range, child-refused, children-last, byte-parts}
 use Rattle.kinds.proofs.operator.Goals as goal
 
-pub returns-then-b-ne4 : goal.returns-then-b-ne4
-returns-then-b-ne4 c =
-    λ defs counts slots kept. wrong_size c.requires.1 c.requires.0 c.requires.2 c.if-b-ne4.true c.no_node.ensures
+pub returns-in_err-item : goal.returns-in_err-item
+returns-in_err-item c =
+    let r : c.from_residual.result ≡ Err BadField = search rules in
+    λ defs counts slots kept. rw r (wrong-length (shaped c.requires.1 (c.requires.0)) c.in_err-item.ensures.1)
 
-pub returns-then-item-ge9 : goal.returns-then-item-ge9
-returns-then-item-ge9 c =
-    λ defs counts slots kept. body_refused c.requires.1 c.requires.0 c.requires.2 c.if-b-ne4.false (item-2-parts _ refl refl c.if-b-ne4.false)
-    (out_of_range (operator-out c.if-item-ge9.true)) (λ z. omega arith) c.no_node-then-item-ge9.ensures
+pub returns-then-item-ge-OPERATORS : goal.returns-then-item-ge-OPERATORS
+returns-then-item-ge-OPERATORS c =
+    let e = c.in_ok-item.ensures in
+    λ defs counts slots kept. body-refused (shaped c.requires.1 (c.requires.0)) (byte-parts {i = c.in_ok-item.item} {ks = c.in_ok-item.children.now} c.args.s.now refl refl (cc) (cc) (omega arith))
+    (out_of_range (operator-out c.if-item-ge-OPERATORS.true).is)
+
+pub returns-in_err-children : goal.returns-in_err-children
+returns-in_err-children c =
+    let e = c.in_ok-item.ensures in
+    let r : c.from_residual-in_err-children.result ≡ Err c.in_err-children.field-0.0 = search rules in
+    λ defs counts slots kept. rw r (body-refused (shaped c.requires.1 (c.requires.0))
+    (byte-parts {i = c.in_ok-item.item} {ks = c.in_ok-item.children.now} c.args.s.now refl refl (cc) (cc) (omega arith))
+    (child-refused (operator-in c.if-item-ge-OPERATORS.false).is refl c.in_err-children.ensures))
 
 pub returns : goal.returns
 returns c =
-    λ defs counts slots kept. read c.requires.1 c.requires.0 c.requires.2 c.if-b-ne4.false (item-2-parts _ refl refl c.if-b-ne4.false)
-    (children-last (operator-in c.if-item-ge9.false) refl c.two_children-e.ensures refl refl) c.given.ensures
+    let e = c.in_ok-item.ensures in
+    λ defs counts slots kept. read (shaped c.requires.1 (c.requires.0))
+    (byte-parts {i = c.in_ok-item.item} {ks = c.in_ok-item.children.now} c.args.s.now refl refl (cc) (cc) (omega arith)) (kind-of-number c.args.kind)
+    (children-last (operator-in c.if-item-ge-OPERATORS.false).is refl c.in_ok-children.ensures refl refl)
+    c.node.ensures

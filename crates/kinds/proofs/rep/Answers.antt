@@ -1,31 +1,44 @@
 -- `kinds::rep` meets its contract. Assumes nothing.
-use mathlib.Core.Path.{refl}
-use native.Mathlib.Omega.{arith}
+use Rattle.std.proofs.Common.{◌≡◌, rules, arith, refl}
+use Rattle.std.specs.Prelude.{Err}
+use Rattle.verdict.specs.declared.Reason.TheVariants.{BadField}
 use Rattle.shapes.specs.Kinds.{rep_kind}
 use Rattle.shapes.proofs.Inside.{kept_out, kept_in}
-use Rattle.kinds.proofs.Fields.{form, wrong_size, body_refused, read, out_of_range, child-refused, variable-taken, variable-free, item-2-parts}
+use Rattle.kinds.proofs.Fields.{form, shaped, wrong-length, body-refused, read, out_of_range, child-refused, variable-last, byte-parts}
 use Rattle.kinds.proofs.rep.Goals as goal
 
-pub returns-then-b-ne4 : goal.returns-then-b-ne4
-returns-then-b-ne4 c = λ defs counts slots. wrong_size (form rep_kind (omega arith)) c.requires.0 c.requires.1 c.if-b-ne4.true c.no_node.ensures
+pub returns-in_err-variable : goal.returns-in_err-variable
+returns-in_err-variable c =
+    let r : c.from_residual.result ≡ Err BadField = search rules in
+    λ defs counts slots. rw r (wrong-length (shaped c.requires.0 (form rep_kind (omega arith))) c.in_err-variable.ensures.1)
 
-pub returns-then-keeps-ge16 : goal.returns-then-keeps-ge16
-returns-then-keeps-ge16 c =
-    λ defs counts slots. body_refused (form rep_kind (omega arith)) c.requires.0 c.requires.1 c.if-b-ne4.false (item-2-parts _ refl refl c.if-b-ne4.false)
-    (out_of_range (kept_out c.if-keeps-ge16.true)) (λ z. omega arith) c.no_node-then-keeps-ge16.ensures
+pub returns-then-variable-ge-VARIABLES : goal.returns-then-variable-ge-VARIABLES
+returns-then-variable-ge-VARIABLES c =
+    let e = c.in_ok-variable.ensures in
+    λ defs counts slots. body-refused (shaped c.requires.0 (form rep_kind (omega arith)))
+    (byte-parts {i = c.in_ok-variable.variable} {ks = c.in_ok-variable.children.now} c.args.s.now refl refl (cc) (cc) (omega arith))
+    (out_of_range (kept_out c.if-variable-ge-VARIABLES.true).is)
 
-pub returns-then-e-ne0 : goal.returns-then-e-ne0
-returns-then-e-ne0 c =
-    λ defs counts slots. body_refused (form rep_kind (omega arith)) c.requires.0 c.requires.1 c.if-b-ne4.false (item-2-parts _ refl refl c.if-b-ne4.false)
-    (child-refused (kept_in c.if-keeps-ge16.false) refl c.two_children-e.ensures c.if-e-ne0.true) c.if-e-ne0.true c.no_node-then-e-ne0.ensures
+pub returns-in_err-children : goal.returns-in_err-children
+returns-in_err-children c =
+    let e = c.in_ok-variable.ensures in
+    let r : c.from_residual-in_err-children.result ≡ Err c.in_err-children.field-0.0 = search rules in
+    λ defs counts slots. rw r (body-refused (shaped c.requires.0 (form rep_kind (omega arith)))
+    (byte-parts {i = c.in_ok-variable.variable} {ks = c.in_ok-variable.children.now} c.args.s.now refl refl (cc) (cc) (omega arith))
+    (child-refused (kept_in c.if-variable-ge-VARIABLES.false).is refl c.in_err-children.ensures))
 
-pub returns-then-take : goal.returns-then-take
-returns-then-take c =
-    λ defs counts slots. body_refused (form rep_kind (omega arith)) c.requires.0 c.requires.1 c.if-b-ne4.false (item-2-parts _ refl refl c.if-b-ne4.false)
-    (variable-taken c.two_children-e.ensures c.if-e-ne0.false (kept_in c.if-keeps-ge16.false) c.take.ensures c.if-take.true) (λ z. omega arith)
-    c.no_node-then-take.ensures
+pub returns-in_err-take : goal.returns-in_err-take
+returns-in_err-take c =
+    let e = c.in_ok-variable.ensures in
+    let r : c.from_residual-in_err-take.result ≡ Err c.in_err-take.field-0.0 = search rules in
+    λ defs counts slots. rw r (body-refused (shaped c.requires.0 (form rep_kind (omega arith)))
+    (byte-parts {i = c.in_ok-variable.variable} {ks = c.in_ok-variable.children.now} c.args.s.now refl refl (cc) (cc) (omega arith))
+    (variable-last c.in_ok-children.ensures (kept_in c.if-variable-ge-VARIABLES.false).is c.in_err-take.ensures))
 
 pub returns : goal.returns
 returns c =
-    λ defs counts slots. read (form rep_kind (omega arith)) c.requires.0 c.requires.1 c.if-b-ne4.false (item-2-parts _ refl refl c.if-b-ne4.false)
-    (variable-free c.two_children-e.ensures c.if-e-ne0.false (kept_in c.if-keeps-ge16.false) c.take.ensures c.if-take.false) c.given.ensures
+    let e = c.in_ok-variable.ensures in
+    λ defs counts slots. read (shaped c.requires.0 (form rep_kind (omega arith)))
+    (byte-parts {i = c.in_ok-variable.variable} {ks = c.in_ok-variable.children.now} c.args.s.now refl refl (cc) (cc) (omega arith)) refl
+    (variable-last c.in_ok-children.ensures (kept_in c.if-variable-ge-VARIABLES.false).is c.in_ok-take.ensures)
+    c.node.ensures

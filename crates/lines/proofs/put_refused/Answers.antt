@@ -1,11 +1,10 @@
 -- `lines::put_refused` meets its contract. Assumes nothing.
-use native.Mathlib.Omega.{arith}
-use Rattle.lines.proofs.Puts.{both, first}
+use Rattle.std.proofs.Common.{arith, append_assoc}
+use Rattle.std.proofs.lemmas.Grind.{common_steps}
 use Rattle.lines.specs.Text.{refused_line}
+use Rattle.lines.proofs.Digits.{as_decimal}
 use Rattle.lines.proofs.put_refused.Goals as goal
 
 pub returns : goal.returns
 unfolding refused_line
-returns c =
-    first (both (both (both (both c.put-at.ensures c.put_decimal-at.ensures) c.put-at-2.ensures) c.put_decimal-at-2.ensures)
-    c.put.ensures) (omega arith)
+returns g c = grind (arith, common_steps, append_assoc, as_decimal)

@@ -1,11 +1,10 @@
--- `lists::count_events` keeps this in its loops.
-use Prim.Native.Nat.{◌-◌}
+-- `lists::count_events` keeps this in its loop.
 use lib.ListN.{length}
 use Rattle.lists.proofs.Turns.{Going}
 use Rattle.lists.proofs.count_events.Given as goal
 
-abbrev pub invariant-loop-at : goal.invariant-loop-at
-invariant-loop-at l = Going l.s l.at l.n
+abbrev pub invariant-loop-rest : goal.invariant-loop-rest
+invariant-loop-rest l = Going l.list l.rest l.n
 
-abbrev pub decreases-loop-at : goal.decreases-loop-at
-decreases-loop-at l = length l.s - l.at
+abbrev pub decreases-loop-rest : goal.decreases-loop-rest
+decreases-loop-rest l = length l.rest

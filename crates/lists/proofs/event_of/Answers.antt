@@ -1,110 +1,37 @@
 -- `lists::event_of` meets its contract. Assumes nothing.
-use mathlib.Core.Path.{◌≡◌, sym, ◌∙◌}
-use mathlib.Core.Bool.{true}
+use mathlib.Core.Path.{◌≡◌, refl, ◌∙◌}
+use mathlib.Core.List.{List, [], ◌∷◌}
+use mathlib.Core.Option.{Option, some}
+use Prim.Native.Nat.{ℕ, suc, ◌-◌, ◌^◌}
 use native.Mathlib.Omega.{arith}
-use borrow.Author.Tests.{ne_eqb}
-use Rattle.decide.proofs.Picks.{said-no, said-yes}
-use Rattle.event.specs.Event.{read_as}
-use Rattle.lists.specs.Listed.{known}
-use Rattle.lists.proofs.Known.{unread, length-of, last-tag}
-use Rattle.lists.proofs.Bytes.{body_is, length-body}
+use borrow.Author.Rules.{sfits_of}
+use lib.ListN.{length, get_or}
+use lib.IntN.{ℤ}
+use mir.Syntax.{w32}
+use mir.Val.{to_z}
+use mir.Facts.{to_z-of_z}
+use Rattle.std.specs.Int.{from_be_bytes}
+use Rattle.program.specs.Tree.{signed}
+use Rattle.wire.specs.Wire.{big}
+use Rattle.wire_reader.proofs.Laws.{big_by_bytes}
+use Rattle.event.specs.Event.{Event, link, read_as}
 use Rattle.lists.proofs.event_of.Goals as goal
 
-pub returns-then-not-is_event : goal.returns-then-not-is_event
-returns-then-not-is_event c = sym (unread _ _ _ (length-body _ _ _ c.requires) (said-no c.is_event.ensures c.if-not-is_event.true-raw))
+signed-is : (n : ℕ) → to_z w32 n ≡ signed n
+signed-is n = let e : 2 ^ 32 - suc n ≡ 4294967295 - n = omega arith in rw e
 
-pub bounds-s-start : goal.bounds-s-start
-bounds-s-start c =
-    let event : known c.args.tag c.args.len ≡ true = said-yes c.is_event.ensures c.if-not-is_event.false-raw in
-    let len-10 : c.args.len ≡ 1 = length-of 0x10 _ _ c.in-16.is event in
-    omega (arith, len-10)
-
-pub bounds-s-start-in-17 : goal.bounds-s-start-in-17
-bounds-s-start-in-17 c =
-    let event : known c.args.tag c.args.len ≡ true = said-yes c.is_event.ensures c.if-not-is_event.false-raw in
-    let len-11 : c.args.len ≡ 2 = length-of 0x11 _ _ c.in-17.is event in
-    omega (arith, len-11)
-
-pub bounds-s-start-in-17-2 : goal.bounds-s-start-in-17-2
-bounds-s-start-in-17-2 c =
-    let event : known c.args.tag c.args.len ≡ true = said-yes c.is_event.ensures c.if-not-is_event.false-raw in
-    let len-11 : c.args.len ≡ 2 = length-of 0x11 _ _ c.in-17.is event in
-    omega (arith, len-11)
-
-pub bounds-s-start-in-18 : goal.bounds-s-start-in-18
-bounds-s-start-in-18 c =
-    let event : known c.args.tag c.args.len ≡ true = said-yes c.is_event.ensures c.if-not-is_event.false-raw in
-    let len-12 : c.args.len ≡ 2 = length-of 0x12 _ _ c.in-18.is event in
-    omega (arith, len-12)
-
-pub bounds-s-start-in-18-2 : goal.bounds-s-start-in-18-2
-bounds-s-start-in-18-2 c =
-    let event : known c.args.tag c.args.len ≡ true = said-yes c.is_event.ensures c.if-not-is_event.false-raw in
-    let len-12 : c.args.len ≡ 2 = length-of 0x12 _ _ c.in-18.is event in
-    omega (arith, len-12)
-
-pub link_at-requires : goal.link_at-requires
-link_at-requires c =
-    let event : known c.args.tag c.args.len ≡ true = said-yes c.is_event.ensures c.if-not-is_event.false-raw in
-    let len-13 : c.args.len ≡ 6 = length-of 0x13 _ _ c.in-19.is event in
-    omega (arith, len-13)
-
-pub bounds-s-start-in_default : goal.bounds-s-start-in_default
-bounds-s-start-in_default c =
-    let event : known c.args.tag c.args.len ≡ true = said-yes c.is_event.ensures c.if-not-is_event.false-raw in
-    let tag-14 : c.args.tag ≡ 0x14 = (let h = c.in_default.in_default-own.rest in last-tag _ _ event (ne_eqb _ 0x10 h.0.0.0.1) (ne_eqb _ 0x11 h.0.0.1) (ne_eqb _ 0x12 h.0.1) (ne_eqb _ 0x13 h.1)) in
-    let len-14 : c.args.len ≡ 3 = length-of 0x14 _ _ tag-14 event in
-    omega (arith, len-14)
-
-pub bounds-s-start-in_default-2 : goal.bounds-s-start-in_default-2
-bounds-s-start-in_default-2 c =
-    let event : known c.args.tag c.args.len ≡ true = said-yes c.is_event.ensures c.if-not-is_event.false-raw in
-    let tag-14 : c.args.tag ≡ 0x14 = (let h = c.in_default.in_default-own.rest in last-tag _ _ event (ne_eqb _ 0x10 h.0.0.0.1) (ne_eqb _ 0x11 h.0.0.1) (ne_eqb _ 0x12 h.0.1) (ne_eqb _ 0x13 h.1)) in
-    let len-14 : c.args.len ≡ 3 = length-of 0x14 _ _ tag-14 event in
-    omega (arith, len-14)
-
-pub bounds-s-start-in_default-3 : goal.bounds-s-start-in_default-3
-bounds-s-start-in_default-3 c =
-    let event : known c.args.tag c.args.len ≡ true = said-yes c.is_event.ensures c.if-not-is_event.false-raw in
-    let tag-14 : c.args.tag ≡ 0x14 = (let h = c.in_default.in_default-own.rest in last-tag _ _ event (ne_eqb _ 0x10 h.0.0.0.1) (ne_eqb _ 0x11 h.0.0.1) (ne_eqb _ 0x12 h.0.1) (ne_eqb _ 0x13 h.1)) in
-    let len-14 : c.args.len ≡ 3 = length-of 0x14 _ _ tag-14 event in
-    omega (arith, len-14)
-
-pub returns-in-16 : goal.returns-in-16
+link-read : (tag : ℕ) (s : List ℕ) (z : ℤ) → tag ≡ 0x13 → length s ≡ 6 → z ≡ to_z w32 (from_be_bytes w32 (get_or s 2 0 ∷ get_or s 3 0 ∷ get_or s 4 0 ∷ get_or s 5 0 ∷ []))
+    → ◌≡◌ {A = Option Event} (some (link (get_or s 0 0) (get_or s 1 0) z)) (read_as tag s)
 unfolding read_as
-returns-in-16 c =
-    let event : known c.args.tag c.args.len ≡ true = said-yes c.is_event.ensures c.if-not-is_event.false-raw in
-    let len-10 : c.args.len ≡ 1 = length-of 0x10 _ _ c.in-16.is event in
-    let s = c.before.before.before.before.before in
-    rw (c.in-16.is, len-10, body_is s.args.s.now s.args.start 0 (let h = len-10 in omega arith))
+link-read tag (a ∷ b ∷ c ∷ d ∷ e ∷ f ∷ []) z t l q = rw (t, q) (rw (← (signed-is (big (c ∷ d ∷ e ∷ f ∷ []))), big_by_bytes (c ∷ d ∷ e ∷ f ∷ []) refl))
+link-read tag [] z t l q = absurd (omega arith)
+link-read tag (a ∷ []) z t l q = absurd (omega arith)
+link-read tag (a ∷ b ∷ []) z t l q = absurd (omega arith)
+link-read tag (a ∷ b ∷ c ∷ []) z t l q = absurd (omega arith)
+link-read tag (a ∷ b ∷ c ∷ d ∷ []) z t l q = absurd (omega arith)
+link-read tag (a ∷ b ∷ c ∷ d ∷ e ∷ []) z t l q = absurd (omega arith)
+link-read tag (a ∷ b ∷ c ∷ d ∷ e ∷ f ∷ g ∷ s) z t l q = absurd (omega arith)
 
-pub returns-in-17 : goal.returns-in-17
-unfolding read_as
-returns-in-17 c =
-    let event : known c.args.tag c.args.len ≡ true = said-yes c.is_event.ensures c.if-not-is_event.false-raw in
-    let len-11 : c.args.len ≡ 2 = length-of 0x11 _ _ c.in-17.is event in
-    let s = c.before.before.before.before.before.before in
-    rw (c.in-17.is, len-11, body_is s.args.s.now s.args.start 1 (let h = len-11 in omega arith))
-
-pub returns-in-18 : goal.returns-in-18
-unfolding read_as
-returns-in-18 c =
-    let event : known c.args.tag c.args.len ≡ true = said-yes c.is_event.ensures c.if-not-is_event.false-raw in
-    let len-12 : c.args.len ≡ 2 = length-of 0x12 _ _ c.in-18.is event in
-    let s = c.before.before.before.before.before.before in
-    rw (c.in-18.is, len-12, body_is s.args.s.now s.args.start 1 (let h = len-12 in omega arith))
-
-pub returns-in-19 : goal.returns-in-19
-returns-in-19 c =
-    let event : known c.args.tag c.args.len ≡ true = said-yes c.is_event.ensures c.if-not-is_event.false-raw in
-    let len-13 : c.args.len ≡ 6 = length-of 0x13 _ _ c.in-19.is event in
-    c.link_at.ensures ∙ sym (rw (c.in-19.is, len-13))
-
-pub returns-in_default : goal.returns-in_default
-unfolding read_as
-returns-in_default c =
-    let event : known c.args.tag c.args.len ≡ true = said-yes c.is_event.ensures c.if-not-is_event.false-raw in
-    let tag-14 : c.args.tag ≡ 0x14 = (let h = c.in_default.in_default-own.rest in last-tag _ _ event (ne_eqb _ 0x10 h.0.0.0.1) (ne_eqb _ 0x11 h.0.0.1) (ne_eqb _ 0x12 h.0.1) (ne_eqb _ 0x13 h.1)) in
-    let len-14 : c.args.len ≡ 3 = length-of 0x14 _ _ tag-14 event in
-    let s = c.before.before.before.before.before.before.before in
-    rw (tag-14, len-14, body_is s.args.s.now s.args.start 2 (let h = len-14 in omega arith))
+pub returns-in-19-len6 : goal.returns-in-19-len6
+returns-in-19-len6 c =
+    link-read c.args.tag c.args.body.now _ (omega arith) (omega arith) (to_z-of_z {w = w32} (sfits_of c.from_be_bytes-distance.type_inv) ∙ c.from_be_bytes-distance.ensures)

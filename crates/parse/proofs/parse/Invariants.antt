@@ -1,10 +1,7 @@
--- `parse::parse` keeps this in its loops.
-use Prim.Native.Nat.{◌-◌}
-use Rattle.parse.proofs.Windows.{Covered}
+-- `parse::parse` keeps this in its loop: d is the deepest level.
+use Rattle.std.proofs.Common.{◌≡◌, ℕ, ◌*◌, ◌/◌}
+use Rattle.parse.proofs.Windows.{CoveredBy}
 use Rattle.parse.proofs.parse.Given as goal
 
-abbrev pub invariant-loop-base : goal.invariant-loop-base
-invariant-loop-base l = Covered l.s l.base l.refused l.at l.deepest l.first.done
-
-abbrev pub decreases-loop-base : goal.decreases-loop-base
-decreases-loop-base l = l.deepest - l.base
+abbrev pub invariant-loop-window : goal.invariant-loop-window
+invariant-loop-window l = (d : ℕ) × ((l.window-end ≡ d / 4096) × CoveredBy l.s (l.window * 4096) l.end d)

@@ -1,113 +1,54 @@
 -- `parse::pass` meets its contract. Assumes nothing.
-use mathlib.Core.Path.{◌≡◌, sym, ◌∙◌}
-use Prim.Native.Nat.{ℕ, ◌-◌, ◌<◌, max}
+use mathlib.Core.Path.{sym, ◌∙◌, ap}
+use Prim.Native.Nat.{ℕ, ◌-◌, ◌<◌}
 use native.Mathlib.Omega.{arith}
+use lib.Dec.{eqb}
+use borrow.Author.Tests.{eq-eqb, ne_eqb}
 use lib.ListN.{length}
-use Rattle.lexemes.proofs.Laws.{Behind}
-use Rattle.parse.proofs.Passing.{Going, begin-pass}
-use Rattle.parse.proofs.Turns.{turn_end, turn-refused, turn-outer, turn-next, placed, front-short, refused-number, above}
+use Rattle.parse.proofs.Passing.{begin-pass}
+use Rattle.parse.proofs.Turns.{turn_end, turn-refused, turn-next, placed, refused-within}
 use Rattle.parse.proofs.pass.Goals as goal
 
-pub loop-levels-init : goal.loop-levels-init
-loop-levels-init c = begin-pass _ _
+pub loop-t-init : goal.loop-t-init
+loop-t-init c = (rw c.new-window.ensures.levels (begin-pass _ _), c.new-window.ensures.base)
 
-pub next-t-requires : goal.next-t-requires
-next-t-requires c = c.loop-levels.invariant.within
+pub slice_bounds-take-end : goal.slice_bounds-take-end
+slice_bounds-take-end c =
+    let p = placed _ _ c.requires _ _ _ _ c.loop-t.invariant.0 _ (sym c.in-Some.ensures) in
+    omega (arith, p.filled, p.inside)
 
-pub level-c-requires : goal.level-c-requires
-level-c-requires c = c.loop-levels.invariant.numbers
+pub overflow_add-result : goal.overflow_add-result
+overflow_add-result c =
+    let p = placed _ _ c.requires _ _ _ _ c.loop-t.invariant.0 _ (sym c.in-Some.ensures) in
+    let x = refused-within _ _ c.requires _ _ _ _ c.loop-t.invariant.0 _ (sym c.in-Some.ensures)
+    c.in-Err.shared (rw c.loop-t.invariant.1 at c.in-Err.ensures.taken) in
+    omega (arith, x, p.inside)
 
-pub returns-then-kind-eq0 : goal.returns-then-kind-eq0
-returns-then-kind-eq0 c =
-    let going : Going c.args.s.now c.args.base c.loop-levels.at c.loop-levels.depth c.loop-levels.deepest c.loop-levels.levels = c.loop-levels.invariant in
-    let a = c.before.before in
-    turn_end _ _ a.requires _ _ _ _ going _ a.next-t.ensures _ a.level-c.ensures.0 c.if-kind-eq0.true _ c.may_end-done.ensures
+pub returns-in-Err : goal.returns-in-Err
+returns-in-Err c =
+    turn-refused _ _ c.requires _ _ _ _ c.loop-t.invariant.0 _ (sym c.in-Some.ensures)
+    c.in-Err.shared (rw c.loop-t.invariant.1 at c.in-Err.ensures.taken)
 
-pub judge-m-requires : goal.judge-m-requires
-judge-m-requires c =
-    let going : Going c.args.s.now c.args.base c.loop-levels.at c.loop-levels.depth c.loop-levels.deepest c.loop-levels.levels = c.loop-levels.invariant in
-    let inside : Behind c.args.s.now c.loop-levels.at c.next-t.result = placed _ _ c.requires _ _ _ _ going _ c.next-t.ensures _ c.level-c.ensures.0 in
-    let a = c.before in (a.level-c.ensures.1, inside.ordered, inside.inside)
-
-pub front-n-requires : goal.front-n-requires
-front-n-requires c =
-    let going : Going c.args.s.now c.args.base c.loop-levels.at c.loop-levels.depth c.loop-levels.deepest c.loop-levels.levels = c.loop-levels.invariant in
-    let inside : Behind c.args.s.now c.loop-levels.at c.next-t.result = placed _ _ c.requires _ _ _ _ going _ c.next-t.ensures _ c.level-c.ensures.0 in
-    let b = c.before in
-    let a = b.before.before in (
-      refused-number _ _ a.requires _ _ _ _ going _ a.next-t.ensures _ a.level-c.ensures.0 b.if-kind-eq0.false _ b.judge-m.ensures
-          c.if-m-eq-REFUSED.true,
-      inside.ordered,
-      inside.inside,
-    )
-
-pub overflow_add-start : goal.overflow_add-start
-overflow_add-start c =
-    let going : Going c.args.s.now c.args.base c.loop-levels.at c.loop-levels.depth c.loop-levels.deepest c.loop-levels.levels = c.loop-levels.invariant in
-    let b = c.before.before in
-    let a = b.before.before in
-    let x = front-short _ _ a.requires _ _ _ _ going _ a.next-t.ensures _ a.level-c.ensures.0
-    b.if-kind-eq0.false _ b.judge-m.ensures
-    _ c.front-n.ensures in
-    omega (arith, x, a.next-t.type_inv)
-
-pub returns-then-m-eq-REFUSED : goal.returns-then-m-eq-REFUSED
-returns-then-m-eq-REFUSED c =
-    let going : Going c.args.s.now c.args.base c.loop-levels.at c.loop-levels.depth c.loop-levels.deepest c.loop-levels.levels = c.loop-levels.invariant in
-    let f = c.before in
-    let b = f.before.before in
-    let a = b.before.before in
-    let w = c.refusing.ensures in
-    rw (w.0, w.1, w.2, w.3)
-    (turn-refused _ _ a.requires _ _ _ _ going _ a.next-t.ensures _ a.level-c.ensures.0 b.if-kind-eq0.false _ b.judge-m.ensures
-    f.if-m-eq-REFUSED.true _ f.front-n.ensures _)
-
-pub returns-then-too_many : goal.returns-then-too_many
-returns-then-too_many c =
-    let going : Going c.args.s.now c.args.base c.loop-levels.at c.loop-levels.depth c.loop-levels.deepest c.loop-levels.levels = c.loop-levels.invariant in
-    let f = c.before in
-    let b = f.before.before.before in
-    let a = b.before.before in
-    let w = c.refusing-then-too_many.ensures in
-    rw (w.0, w.1, w.2, w.3)
-    (turn-outer _ _ a.requires _ _ _ _ going _ a.next-t.ensures _ a.level-c.ensures.0 b.if-kind-eq0.false _ b.judge-m.ensures
-    (sym f.too_many.ensures ∙ f.if-too_many.true) _)
-
-pub advance-depth-requires : goal.advance-depth-requires
-advance-depth-requires c =
-    let going : Going c.args.s.now c.args.base c.loop-levels.at c.loop-levels.depth c.loop-levels.deepest c.loop-levels.levels = c.loop-levels.invariant in
-    let inside : Behind c.args.s.now c.loop-levels.at c.next-t.result = placed _ _ c.requires _ _ _ _ going _ c.next-t.ensures _ c.level-c.ensures.0 in
-    let below : (c.next-t.result.kind ≡ 0 → ⊥) → c.loop-levels.depth < 18446744073709551615 = (λ z. let g = going in let x = inside.behind in let y = inside.some z in omega (arith, x, y, g.bound, g.passed, c.next-t.type_inv)) in
-    let t = c.before.before in
-    let b = t.before.before in
-    let a = b.before.before in (
-      below b.if-kind-eq0.false,
-      above _ _ a.requires _ _ _ _ going _ a.next-t.ensures _ a.level-c.ensures.0 b.if-kind-eq0.false _ b.judge-m.ensures
-          (sym t.too_many.ensures ∙ c.if-too_many.false),
-    )
-
-pub loop-levels-smaller-then-deepest-depth : goal.loop-levels-smaller-then-deepest-depth
-loop-levels-smaller-then-deepest-depth c =
-    let going : Going c.args.s.now c.args.base c.loop-levels.at c.loop-levels.depth c.loop-levels.deepest c.loop-levels.levels = c.loop-levels.invariant in
-    let inside : Behind c.args.s.now c.loop-levels.at c.next-t.result = placed _ _ c.requires _ _ _ _ going _ c.next-t.ensures _ c.level-c.ensures.0 in
-    let nearer : length c.args.s.now - c.next-t.result.end < length c.args.s.now - c.loop-levels.at = (let b = c.before.before.before.before.before in let a = b.before.before in let x = inside.behind in let y = inside.some b.if-kind-eq0.false in omega (arith, x, y, inside.inside)) in
+pub loop-t-smaller : goal.loop-t-smaller
+loop-t-smaller c =
+    let p = placed _ _ c.requires _ _ _ _ c.loop-t.invariant.0 _ (sym c.in-Some.ensures) in
+    let nearer : length c.args.s.now - c.in-Some.t.end < length c.args.s.now - c.loop-t.at = omega (arith, p.behind, p.filled, p.inside) in
     nearer
 
-pub loop-levels-preserved-then-deepest-depth : goal.loop-levels-preserved-then-deepest-depth
-loop-levels-preserved-then-deepest-depth c =
-    let going : Going c.args.s.now c.args.base c.loop-levels.at c.loop-levels.depth c.loop-levels.deepest c.loop-levels.levels = c.loop-levels.invariant in
-    let again : (k : ℕ) → k ≡ max c.loop-levels.deepest c.advance-depth.result → Going c.args.s.now c.args.base c.next-t.result.end c.advance-depth.result k c.advance-depth.new.levels = (λ k q. let t = c.before.before.before in let b = t.before.before in let a = b.before.before in turn-next _ _ a.requires _ _ _ _ going _ a.next-t.ensures _ a.level-c.ensures.0 b.if-kind-eq0.false _ b.judge-m.ensures t.if-m-eq-REFUSED.false (sym t.too_many.ensures ∙ c.if-too_many.false) _ _ _ c.advance-depth.ensures.0 c.advance-depth.ensures.1 q) in
-    again _ (let x = c.if-deepest-depth.true in omega (arith, x))
+pub loop-t-preserved : goal.loop-t-preserved
+loop-t-preserved c = (
+  turn-next _ _ c.requires _ _ _ _ c.loop-t.invariant.0 _ (sym c.in-Some.ensures)
+      c.take.new.self.levels c.in-Ok.d c.max-deepest.result (rw c.loop-t.invariant.1 at c.in-Ok.ensures.taken) c.in-Ok.ensures.numbered c.max-deepest.ensures,
+  c.in-Ok.ensures.base ∙ c.loop-t.invariant.1,
+)
 
-pub loop-levels-smaller : goal.loop-levels-smaller
-loop-levels-smaller c =
-    let going : Going c.args.s.now c.args.base c.loop-levels.at c.loop-levels.depth c.loop-levels.deepest c.loop-levels.levels = c.loop-levels.invariant in
-    let inside : Behind c.args.s.now c.loop-levels.at c.next-t.result = placed _ _ c.requires _ _ _ _ going _ c.next-t.ensures _ c.level-c.ensures.0 in
-    let nearer : length c.args.s.now - c.next-t.result.end < length c.args.s.now - c.loop-levels.at = (let b = c.before.before.before.before.before in let a = b.before.before in let x = inside.behind in let y = inside.some b.if-kind-eq0.false in omega (arith, x, y, inside.inside)) in
-    nearer
+pub returns-then-depth-eq0 : goal.returns-then-depth-eq0
+returns-then-depth-eq0 c =
+    turn_end _ _ c.requires _ _ _ _ c.loop-t.invariant.0 (sym c.next.ensures ∙ c.in_default.is)
+    _ (ap (λ (k : ℕ). eqb k 1) (rw c.loop-t.invariant.1 at c.level.ensures.level) ∙ sym (rw (eq-eqb c.loop-t.depth 0 c.if-depth-eq0.true)))
 
-pub loop-levels-preserved : goal.loop-levels-preserved
-loop-levels-preserved c =
-    let going : Going c.args.s.now c.args.base c.loop-levels.at c.loop-levels.depth c.loop-levels.deepest c.loop-levels.levels = c.loop-levels.invariant in
-    let again : (k : ℕ) → k ≡ max c.loop-levels.deepest c.advance-depth.result → Going c.args.s.now c.args.base c.next-t.result.end c.advance-depth.result k c.advance-depth.new.levels = (λ k q. let t = c.before.before.before in let b = t.before.before in let a = b.before.before in turn-next _ _ a.requires _ _ _ _ going _ a.next-t.ensures _ a.level-c.ensures.0 b.if-kind-eq0.false _ b.judge-m.ensures t.if-m-eq-REFUSED.false (sym t.too_many.ensures ∙ c.if-too_many.false) _ _ _ c.advance-depth.ensures.0 c.advance-depth.ensures.1 q) in
-    again _ (let x = c.if-deepest-depth.false in omega (arith, x))
+pub returns-else-depth-eq0 : goal.returns-else-depth-eq0
+returns-else-depth-eq0 c =
+    let d = ne_eqb c.loop-t.depth 0 c.if-depth-eq0.false in
+    turn_end _ _ c.requires _ _ _ _ c.loop-t.invariant.0 (sym c.next.ensures ∙ c.in_default.is)
+    _ (rw d)

@@ -1,62 +1,51 @@
 -- `refusal_rows::read_node` meets its contract. Assumes nothing.
-use Rattle.shapes.proofs.ByKind.{past}
-use Rattle.kinds.proofs.Fields.{no_kind, no_room, unknown}
-use native.Mathlib.Omega.{arith}
+use Rattle.std.proofs.Common.{sym, ◌∙◌, ap}
+use Rattle.std.specs.Prelude.{Some}
+use Rattle.kinds.proofs.Fields.{no_room, unknown}
+use Rattle.refusal_rows.proofs.Rows.{as-read, named-is, unnamed, parameters-limited, variables-limited}
 use Rattle.refusal_rows.proofs.read_node.Goals as goal
 
-pub returns-then-b-eq0 : goal.returns-then-b-eq0
-returns-then-b-eq0 c = no_kind _ c.if-b-eq0.true c.no_node.ensures
-
 pub returns-then-n-ge-NODES : goal.returns-then-n-ge-NODES
-returns-then-n-ge-NODES c = no_room _ c.if-b-eq0.false c.if-n-ge-NODES.true c.no_node-then-n-ge-NODES.ensures
+returns-then-n-ge-NODES c = no_room _ c.in-len1-up.len_at_least c.if-n-ge-NODES.true
 
-pub returns-in-0 : goal.returns-in-0
-returns-in-0 c = c.constant.ensures _ _ _ _ c.if-n-ge-NODES.false
+pub returns-in_default-of : goal.returns-in_default-of
+returns-in_default-of c = unknown _ c.in-len1-up.len_at_least c.if-n-ge-NODES.false (unnamed _ (sym c.of.ensures ∙ c.in_default-of.is))
 
-pub returns-in-1 : goal.returns-in-1
-returns-in-1 c = c.parameter.ensures _ _ _ _ c.if-n-ge-NODES.false
+pub numbered-requires : goal.numbered-requires
+numbered-requires c = rw c.in-Parameter.is parameters-limited
 
-pub returns-in-2 : goal.returns-in-2
-returns-in-2 c = c.variable.ensures _ _ _ _ c.if-n-ge-NODES.false
+pub numbered-requires-in-Variable : goal.numbered-requires-in-Variable
+numbered-requires-in-Variable c = rw c.in-Variable.is variables-limited
 
-pub returns-in-3 : goal.returns-in-3
-returns-in-3 c = c.operator.ensures _ _ _ _
+pub returns-in-Constant : goal.returns-in-Constant
+returns-in-Constant c = as-read c.args.b.now c.in-len1-up.len_at_least (named-is _ (sym c.of.ensures ∙ c.in-Some.is ∙ ap Some c.in-Constant.is)) (c.constant.ensures _ _ _ _ c.if-n-ge-NODES.false)
 
-pub returns-in-10 : goal.returns-in-10
-returns-in-10 c = c.operator-in-10.ensures _ _ _ _
+pub returns-in-Parameter : goal.returns-in-Parameter
+returns-in-Parameter c = as-read c.args.b.now c.in-len1-up.len_at_least (named-is _ (sym c.of.ensures ∙ c.in-Some.is)) (c.numbered.ensures _ _ _ _ c.if-n-ge-NODES.false)
 
-pub returns-in-4 : goal.returns-in-4
-returns-in-4 c = c.sense.ensures _ _ _ _
+pub returns-in-Variable : goal.returns-in-Variable
+returns-in-Variable c = as-read c.args.b.now c.in-len1-up.len_at_least (named-is _ (sym c.of.ensures ∙ c.in-Some.is)) (c.numbered-in-Variable.ensures _ _ _ _ c.if-n-ge-NODES.false)
 
-pub returns-in-5 : goal.returns-in-5
-returns-in-5 c = c.rep.ensures _ _ _
+pub returns-in-Operator : goal.returns-in-Operator
+returns-in-Operator c = as-read c.args.b.now c.in-len1-up.len_at_least (named-is _ (sym c.of.ensures ∙ c.in-Some.is)) (c.operator.ensures _ _ _ _)
 
-pub returns-in-6 : goal.returns-in-6
-returns-in-6 c = c.choice.ensures _ _ _ _
+pub returns-in-Sense : goal.returns-in-Sense
+returns-in-Sense c = as-read c.args.b.now c.in-len1-up.len_at_least (named-is _ (sym c.of.ensures ∙ c.in-Some.is)) (c.plain.ensures _ _ _ _)
 
-pub returns-in-7 : goal.returns-in-7
-returns-in-7 c = c.choice-in-7.ensures _ _ _ _
+pub returns-in-Rep : goal.returns-in-Rep
+returns-in-Rep c = as-read c.args.b.now c.in-len1-up.len_at_least (named-is _ (sym c.of.ensures ∙ c.in-Some.is ∙ ap Some c.in-Rep.is)) (c.rep.ensures _ _ _)
 
-pub returns-in-8 : goal.returns-in-8
-returns-in-8 c = c.nbr.ensures _ _ _
+pub returns-in-If : goal.returns-in-If
+returns-in-If c = as-read c.args.b.now c.in-len1-up.len_at_least (named-is _ (sym c.of.ensures ∙ c.in-Some.is)) (c.plain-in-If.ensures _ _ _ _)
 
-pub returns-in-9 : goal.returns-in-9
-returns-in-9 c = c.measure.ensures _ _ _ _ _ c.if-n-ge-NODES.false
+pub returns-in-Nbr : goal.returns-in-Nbr
+returns-in-Nbr c = as-read c.args.b.now c.in-len1-up.len_at_least (named-is _ (sym c.of.ensures ∙ c.in-Some.is)) (c.slotted.ensures _ _ _)
 
-pub returns-in-11 : goal.returns-in-11
-returns-in-11 c = c.fold_by.ensures _ _ _
+pub returns-in-Range : goal.returns-in-Range
+returns-in-Range c = as-read c.args.b.now c.in-len1-up.len_at_least (named-is _ (sym c.of.ensures ∙ c.in-Some.is)) (c.slotted-in-Range.ensures _ _ _)
 
-pub returns-in-12 : goal.returns-in-12
-returns-in-12 c = c.call.ensures _ _
+pub returns-in-FoldBy : goal.returns-in-FoldBy
+returns-in-FoldBy c = as-read c.args.b.now c.in-len1-up.len_at_least (named-is _ (sym c.of.ensures ∙ c.in-Some.is ∙ ap Some c.in-FoldBy.is)) (c.fold_by.ensures _ _ _)
 
-pub returns-in-13 : goal.returns-in-13
-returns-in-13 c = c.measure-in-13.ensures _ _ _ _ _ c.if-n-ge-NODES.false
-
-pub returns-in_default : goal.returns-in_default
-returns-in_default c =
-    let m = c.in_default.in_default-own.rest.0 in
-    unknown _ c.if-b-eq0.false c.if-n-ge-NODES.false (past (past (past (past (past
-    (past (past (past (past (past (past (past (past (past (omega arith) m.0.0.0.0.0.0.0.0.0.0.0.0.1) m.0.0.0.0.0.0.0.0.0.0.0.1)
-    m.0.0.0.0.0.0.0.0.0.0.1) m.0.0.0.0.0.0.0.0.0.1) m.0.0.0.0.0.0.0.1) m.0.0.0.0.0.0.1)
-    m.0.0.0.0.0.1) m.0.0.0.0.1) m.0.0.0.1) m.0.0.1) m.0.0.0.0.0.0.0.0.1) m.0.1) m.1) c.in_default.in_default-own.rest.1)
-    c.no_node-in_default.ensures
+pub returns-in-Call : goal.returns-in-Call
+returns-in-Call c = as-read c.args.b.now c.in-len1-up.len_at_least (named-is _ (sym c.of.ensures ∙ c.in-Some.is ∙ ap Some c.in-Call.is)) (c.call.ensures _ _)

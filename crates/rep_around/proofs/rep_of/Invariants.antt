@@ -1,10 +1,9 @@
--- `rep_around::rep_of` keeps this in its loops.
-use Rattle.notation.specs.Words.{between}
+-- `rep_around::rep_of` keeps this in its loop. The walk is the tuple of its fields there.
 use Rattle.rep_around.proofs.Walks.{Walking}
 use Rattle.rep_around.proofs.rep_of.Given as goal
 
-abbrev pub invariant-loop-p : goal.invariant-loop-p
-invariant-loop-p l = Walking (between l.a l.b l.s) l.s l.top l.at l.p l.x
+abbrev pub invariant-loop-walk : goal.invariant-loop-walk
+invariant-loop-walk l = Walking l.w l.form l.at (record { depth = l.walk.0; items = l.walk.1.0; last = l.walk.1.1.0.now; prior = l.walk.1.1.1.0.now })
 
-abbrev pub decreases-loop-p : goal.decreases-loop-p
-decreases-loop-p l = l.p
+abbrev pub decreases-loop-walk : goal.decreases-loop-walk
+decreases-loop-walk l = l.at

@@ -1,19 +1,15 @@
 -- `scan::soundness` meets its contract. Assumes nothing.
-use mathlib.Core.Path.{◌∙◌}
-use borrow.Author.Tests.{eq-eqb, ne_eqb}
-use Rattle.network.specs.Network.{soundness}
-use Rattle.scan.proofs.First.{accepted-at, refused-at}
-use Rattle.decide.proofs.Picks.{on_true, on_false}
+use Rattle.std.proofs.Common.{refl, Some, None}
+use Rattle.scan.proofs.First.{wrong_length, judged}
 use Rattle.scan.proofs.soundness.Goals as goal
 
-pub returns-then-net-ne-CELLS : goal.returns-then-net-ne-CELLS
-unfolding soundness
-returns-then-net-ne-CELLS c = on_false _ (ne_eqb _ _ c.if-net-ne-CELLS.true) c.refused.ensures
+pub returns-in_default : goal.returns-in_default
+returns-in_default c = wrong_length _ _ c.in_default.ensures.cases (rw c.unsound.ensures)
 
-pub returns-then-bad-eq-CELLS : goal.returns-then-bad-eq-CELLS
-unfolding soundness
-returns-then-bad-eq-CELLS c = on_true _ (eq-eqb _ _ c.if-net-ne-CELLS.false) (c.accepted.ensures ∙ accepted-at _ _ c.first_unsound-bad.ensures c.if-bad-eq-CELLS.true)
+pub returns-in-Some-first_unsound : goal.returns-in-Some-first_unsound
+returns-in-Some-first_unsound c =
+    let whole = c.in-Some.ensures.cases in
+    judged _ _ (Some c.in-Some-first_unsound.place) _ whole.long whole.same c.in-Some-first_unsound.ensures (rw c.unsound-in-Some-first_unsound.ensures)
 
-pub returns : goal.returns
-unfolding soundness
-returns c = on_true _ (eq-eqb _ _ c.if-net-ne-CELLS.false) (c.refused-2.ensures ∙ refused-at _ _ c.first_unsound-bad.ensures c.if-bad-eq-CELLS.false)
+pub returns-in-None : goal.returns-in-None
+returns-in-None c = let whole = c.in-Some.ensures.cases in judged _ _ None _ whole.long whole.same c.in-None.ensures refl

@@ -1,12 +1,7 @@
--- `sorts::lowest_field` keeps this in its loops.
-use Rattle.sorts.specs.Sorts.{lowest_field}
-use lib.ListN.{length, drop}
-use Prim.Native.Nat.{◌-◌}
-use mathlib.Core.Path.{◌≡◌}
+-- `sorts::lowest_field` keeps this in its loop: the nodes still to come and the lowest so far come to what all of them do.
+use Rattle.std.proofs.Common.{◌≡◌, drop}
+use Rattle.sorts.specs.Sorts.{lowest_field, node_or_none}
 use Rattle.sorts.proofs.lowest_field.Given as goal
 
-abbrev pub invariant-loop-i : goal.invariant-loop-i
-invariant-loop-i l = lowest_field l.ws l.ks l.r ≡ lowest_field l.ws (drop l.i l.ks) l.low
-
-abbrev pub decreases-loop-i : goal.decreases-loop-i
-decreases-loop-i l = length l.ks - l.i
+abbrev pub invariant-loop-k : goal.invariant-loop-k
+invariant-loop-k l = lowest_field l.ws l.ks (node_or_none l.fn.low) ≡ lowest_field l.ws (drop l.k-index l.ks) (node_or_none l.lowest)

@@ -1,18 +1,13 @@
--- `taken::any_untaken` meets its contract. The invariant: what is left gives what the whole gives. Assumes nothing.
-use mathlib.Core.Path.{refl, sym, ◌∙◌}
-use native.Mathlib.Omega.{arith}
-use borrow.Author.Rules.{rules}
-use Rattle.taken.proofs.Walk.{untaken-none, untaken-at}
+-- `taken::any_untaken` meets its contract. Assumes nothing.
+use Rattle.std.proofs.Common.{◌≡◌, not, take, rules, tests, ◌∙◌, arith}
+use Rattle.std.specs.List.{list_any}
+use Rattle.std.proofs.lemmas.Iterator.Search.{any_from_yields_List}
+use Rattle.std.proofs.lemmas.Iterator.{YieldsList-from_slice}
+use Rattle.taken.proofs.Walk.{untaken_any}
 use Rattle.taken.proofs.any_untaken.Goals as goal
 
-pub loop-k-init : goal.loop-k-init
-loop-k-init c = (search rules, refl)
-
-pub returns-then-not-named-k : goal.returns-then-not-named-k
-returns-then-not-named-k c = sym (untaken-at _ _ _ _ c.loop-k-test.true refl c.loop-k.invariant.1 ∙ rw c.if-not-named-k.true-raw)
-
-pub loop-k-preserved : goal.loop-k-preserved
-loop-k-preserved c = (omega arith, untaken-at _ _ _ _ c.loop-k-test.true refl c.loop-k.invariant.1 ∙ rw c.if-not-named-k.false-raw)
-
 pub returns : goal.returns
-returns c = untaken-none _ _ _ c.loop-k-test.false c.loop-k.invariant.1
+returns c =
+    let e : c.any.result ≡ list_any not (take c.args.n c.args.named.now) =
+    any_from_yields_List not _ _ c.any.result c.any.ensures.ran (YieldsList-from_slice (take c.args.n c.args.named.now) cc) (λ x b q k. search (rules, tests)) in
+    e ∙ untaken_any c.args.n c.args.named.now (omega arith)

@@ -1,36 +1,32 @@
 -- `texts::read_text` meets its contract. Assumes nothing.
-use mathlib.Core.Path.{sym}
-use borrow.Author.Tests.{not-true, not-false}
-use Rattle.texts.proofs.Answers.{outside, unresolved, unsound, no_room, written}
+use Rattle.std.specs.Prelude.{◌≡◌, Err, List, ◌++◌, ℕ, length, drop}
+use Rattle.std.proofs.Common.{sym, ap, ◌∙◌, rules}
+use Rattle.program.specs.Check.{Verdict}
+use Rattle.verdict.specs.Outcome.{outcome}
+use Rattle.compile.specs.Writes.{Compiles}
+use Rattle.texts.proofs.Answers.{refused, outside, unresolved, unsound, no_room, written}
 use Rattle.texts.proofs.read_text.Goals as goal
 
-pub returns-then-not-p : goal.returns-then-not-p
-returns-then-not-p c =
-    rw c.refused.ensures (outside _ _ _ _ c.parse-p.ensures.0 c.parse-p.ensures.1 (not-true _ c.if-not-p.true))
+pub returns-in-Err : goal.returns-in-Err
+returns-in-Err c = outside _ _ c.in-Err.place c.in-Err.ensures
 
 pub returns-then-not-names_good : goal.returns-then-not-names_good
-returns-then-not-names_good c =
-    rw c.refused-then-not-names_good.ensures (unresolved _ _ _ c.parse-p.ensures.0 (not-false _ c.if-not-p.false) _ c.names_good.ensures (not-true _ c.if-not-names_good.true-raw))
+returns-then-not-names_good c = unresolved _ _ c.in_default.ensures.0 c.names_good.result c.names_good.ensures c.if-not-names_good.true
 
-pub slice_bounds-check_first-end : goal.slice_bounds-check_first-end
-slice_bounds-check_first-end c = sym c.compile-n.ensures.room
-
-pub returns-then-v-ne0 : goal.returns-then-v-ne0
-returns-then-v-ne0 c =
-    unsound _ _ _ c.parse-p.ensures.0 (not-false _ c.if-not-p.false) _ c.names_good.ensures
-    (not-false _ c.if-not-names_good.false-raw) _ _ c.compile-n.ensures _ c.check_first-v.ensures
-    c.if-v-ne0.true
+pub returns-in_err-check : goal.returns-in_err-check
+returns-in_err-check c =
+    let b : Compiles c.args.text.now c.as_slice-bytes.result.now = rw c.as_slice-bytes.ensures c.compile-written.ensures in
+    let e : c.from_residual.result ≡ Err c.in_err-check.field-0.0 = search rules in
+    rw e
+    (unsound _ _ c.in_default.ensures.0 c.names_good.result c.names_good.ensures c.if-not-names_good.false _ b _ (sym (ap outcome c.in_err-check.was) ∙ c.check.ensures) (refused c.in_err-check.field-0.0.reason))
 
 pub returns-then-table-n : goal.returns-then-table-n
 returns-then-table-n c =
-    rw c.refused-then-table-n.ensures (no_room _ _ _ c.parse-p.ensures.0 (not-false _ c.if-not-p.false) _ c.names_good.ensures
-    (not-false _ c.if-not-names_good.false-raw) _ _ c.compile-n.ensures _
-    c.check_first-v.ensures c.if-v-ne0.false c.if-table-n.true)
-
-pub slice_bounds-copy-end : goal.slice_bounds-copy-end
-slice_bounds-copy-end c = sym c.compile-n.ensures.room
+    let b : Compiles c.args.text.now c.as_slice-bytes.result.now = rw c.as_slice-bytes.ensures c.compile-written.ensures in
+    no_room _ _ c.in_default.ensures.0 c.names_good.result c.names_good.ensures c.if-not-names_good.false _ b (ap (λ (u : Verdict). u.0) (sym c.check.ensures ∙ ap outcome c.in_ok-check.was)) c.if-table-n.true
 
 pub returns : goal.returns
 returns c =
-    rw c.done.ensures (written _ _ _ c.parse-p.ensures.0 (not-false _ c.if-not-p.false) _ c.names_good.ensures (not-false _ c.if-not-names_good.false-raw) _ _ c.compile-n.ensures _
-    c.check_first-v.ensures c.if-v-ne0.false c.if-table-n.false _ c.copy.ensures)
+    let b : Compiles c.args.text.now c.as_slice-bytes.result.now = rw c.as_slice-bytes.ensures c.compile-written.ensures in
+    written _ _ c.in_default.ensures.0 c.names_good.result c.names_good.ensures c.if-not-names_good.false _ b (ap (λ (u : Verdict). u.0) (sym c.check.ensures ∙ ap outcome c.in_ok-check.was))
+    c.if-table-n.false _ (ap (λ (l : List ℕ). l ++ drop (length c.as_slice-bytes.result.now) c.args.table.now) c.copy_from_slice.ensures.after)

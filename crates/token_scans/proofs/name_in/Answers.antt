@@ -1,62 +1,42 @@
 -- `token_scans::name_in` meets its contract. Assumes nothing.
-use Prim.Native.Nat.{◌-◌}
-use native.Mathlib.Omega.{arith}
-use Rattle.token_scans.proofs.Hits.{turn-within, turn-further, turn-none, turn-found, turn-next, turn-few, turn_inside, naming-first, naming-end}
+use Rattle.std.proofs.Common.{sym, ap, ◌∙◌, arith}
+use Rattle.notation.specs.Words.{between}
+use Rattle.token_scans.specs.Scan.{mode_after}
+use Rattle.token_scans.specs.Sought.{number_of}
+use Rattle.lexemes.proofs.Laws.{next-within}
+use Rattle.token_scans.proofs.Modes.{modes-same, words-same, byte-cond}
+use Rattle.token_scans.proofs.Hits.{naming-end, naming-found, naming-next, sought-by, sought-not, sought_word}
 use Rattle.token_scans.proofs.name_in.Goals as goal
+use Rattle.token_scans.proofs.name_in.Goals.{then-eq, else-eq, else-is_name-via-then-is_name+else-eq-2, else-is_name-via-else-is_name}
 
-pub loop-at-init : goal.loop-at-init
-loop-at-init c = naming-first _ _ _
+pub slice_bounds-word-end : goal.slice_bounds-word-end
+slice_bounds-word-end c = (next-within _ _ c.loop-l.invariant.within _ (sym c.next.ensures ∙ c.in-Some.is)).inside
 
-pub next-l-requires : goal.next-l-requires
-next-l-requires c = c.loop-at.invariant.within
+pub loop-l-smaller : goal.loop-l-smaller
+loop-l-smaller c = let b = next-within _ _ c.loop-l.invariant.within _ (sym c.next.ensures ∙ c.in-Some.is) in omega (arith, b.behind, b.filled, b.inside)
 
-pub returns-then-kind-eq0 : goal.returns-then-kind-eq0
-returns-then-kind-eq0 c =
-    turn-none c.args.s.now c.args.lo c.args.hi c.loop-at.invariant c.requires.1 _ c.next-l.ensures c.if-kind-eq0.true
+pub returns-then-eq-2 : goal.returns-then-eq-2
+returns-then-eq-2 c =
+    naming-found c.loop-l.invariant _ (sym c.next.ensures ∙ c.in-Some.is) c.if-eq.is_name
+    (elim c.if-eq.branch [
+      | then-eq w ↦ sought-by _ _ _ (sym (modes-same _ _) ∙ sym c.eq.ensures ∙ w.if-eq.true) (w.is_name-is ∙ w.eq-is_name.ensures ∙ sought_word _)
+      | else-eq w ↦ sought-not _ _ _ (sym (modes-same _ _) ∙ sym c.eq.ensures ∙ w.if-eq.false) (w.is_name-is ∙ w.if-eq.false)
+    ])
+    c.if-is_name.true (sym c.if-eq-2.true ∙ c.eq-then-is_name.ensures ∙ words-same c.args.w.now (between c.in-Some.l.start c.in-Some.l.end c.args.part.now))
 
-pub overflow_add-lo : goal.overflow_add-lo
-overflow_add-lo c =
-    let b = turn-within c.args.s.now c.args.lo c.args.hi c.loop-at.invariant c.requires.1 _ c.next-l.ensures in
-    omega arith
-
-pub overflow_add-lo-in-loop-at : goal.overflow_add-lo-in-loop-at
-overflow_add-lo-in-loop-at c =
-    let b = turn-within c.args.s.now c.args.lo c.args.hi c.loop-at.invariant c.requires.1 _ c.next-l.ensures in
-    omega arith
-
-pub hit-h-requires : goal.hit-h-requires
-hit-h-requires c =
-    let b = turn-within c.args.s.now c.args.lo c.args.hi c.loop-at.invariant c.requires.1 _ c.next-l.ensures in
-    (c.requires.2, c.requires.3, omega arith, omega arith)
-
-pub returns-then-h-eq2 : goal.returns-then-h-eq2
-returns-then-h-eq2 c =
-    turn-found c.args.s.now c.args.lo c.args.hi c.loop-at.invariant c.requires.1 _ c.next-l.ensures
-    c.if-kind-eq0.false _ c.hit-h.ensures c.if-h-eq2.true
-
-pub overflow_add-n : goal.overflow_add-n
-overflow_add-n c =
-    let b = turn-few c.args.s.now c.args.lo c.args.hi c.loop-at.invariant c.requires.1 _ c.next-l.ensures
-    c.if-kind-eq0.false _ c.hit-h.ensures c.if-h-eq2.false in
-    omega arith
-
-pub token_code-requires : goal.token_code-requires
-token_code-requires c =
-    let b = turn-within c.args.s.now c.args.lo c.args.hi c.loop-at.invariant c.requires.1 _
-    c.next-l.ensures in
-    (b.1, turn_inside c.args.s.now c.args.lo c.args.hi c.loop-at.invariant c.requires.1 _ c.next-l.ensures)
-
-pub loop-at-smaller : goal.loop-at-smaller
-loop-at-smaller c =
-    let b = turn-further c.args.s.now c.args.lo c.args.hi c.loop-at.invariant c.requires.1 _
-    c.next-l.ensures c.if-kind-eq0.false in
-    omega arith
-
-pub loop-at-preserved : goal.loop-at-preserved
-loop-at-preserved c =
-    turn-next c.args.s.now c.args.lo c.args.hi c.loop-at.invariant c.requires.1 _
-    c.next-l.ensures c.if-kind-eq0.false _ c.hit-h.ensures
-    c.if-h-eq2.false _ _ c.token_code.ensures c.mode_after-m.ensures
+pub loop-l-preserved : goal.loop-l-preserved
+loop-l-preserved c =
+    naming-next c.loop-l.invariant _ (sym c.next.ensures ∙ c.in-Some.is) c.if-eq.is_name
+    (elim c.if-eq.branch [
+      | then-eq w ↦ sought-by _ _ _ (sym (modes-same _ _) ∙ sym c.eq.ensures ∙ w.if-eq.true) (w.is_name-is ∙ w.eq-is_name.ensures ∙ sought_word _)
+      | else-eq w ↦ sought-not _ _ _ (sym (modes-same _ _) ∙ sym c.eq.ensures ∙ w.if-eq.false) (w.is_name-is ∙ w.if-eq.false)
+    ])
+    (λ y. elim c.else-is_name.branch [
+      | else-is_name-via-then-is_name+else-eq-2 w ↦
+          sym w.if-eq-2.false ∙ w.eq-then-is_name.ensures ∙ words-same c.args.w.now (between c.in-Some.l.start c.in-Some.l.end c.args.part.now)
+      | else-is_name-via-else-is_name w ↦ cc (y, w.if-is_name.false)
+    ])
+    _ _ (c.from-n.ensures ∙ byte-cond _) (c.after-m.ensures ∙ ap (mode_after (number_of c.loop-l.m)) c.token_code.ensures)
 
 pub returns : goal.returns
-returns c = naming-end c.loop-at.invariant c.loop-at-test.false
+returns c = naming-end c.loop-l.invariant (sym c.next.ensures ∙ c.in_default.is)

@@ -1,12 +1,11 @@
--- `token_scans::name_in` keeps this in its loops.
-use Prim.Native.Nat.{◌-◌}
-use lib.ListN.{length}
-use Rattle.notation.specs.Words.{between}
+-- `token_scans::name_in` keeps this in its loop.
+use Rattle.std.specs.Prelude.{◌-◌, length}
+use Rattle.token_scans.specs.Sought.{number_of}
 use Rattle.token_scans.proofs.Hits.{Naming}
 use Rattle.token_scans.proofs.name_in.Given as goal
 
-abbrev pub invariant-loop-at : goal.invariant-loop-at
-invariant-loop-at l = Naming l.k (between l.a l.b l.s) l.e l.at l.m l.n
+abbrev pub invariant-loop-l : goal.invariant-loop-l
+invariant-loop-l l = Naming (number_of l.mode) l.w l.part l.at (number_of l.m) l.n
 
-abbrev pub decreases-loop-at : goal.decreases-loop-at
-decreases-loop-at l = length l.e - l.at
+abbrev pub decreases-loop-l : goal.decreases-loop-l
+decreases-loop-l l = length l.part - l.at

@@ -1,11 +1,8 @@
 -- `token_scans::slots_in` meets its contract. Assumes nothing.
-use native.Mathlib.Omega.{arith}
-use Rattle.notation.proofs.Between.{length-between}
+use Rattle.std.specs.Prelude.{◌&&◌, ◌||◌, eqb}
+use Rattle.std.proofs.Common.{◌∙◌, rules}
+use Rattle.token_scans.proofs.Counts.{heads-counted}
 use Rattle.token_scans.proofs.slots_in.Goals as goal
 
-pub returns : goal.returns
-returns c =
-    let a = c.args in
-    let l = length-between a.lo a.hi a.s.now c.requires.1 in
-    let e = c.heads_in.ensures in
-    (e.same, omega (arith, e.few))
+pub returns-clause-number : goal.returns-clause-number
+returns-clause-number c = c.count.ensures.passed (λ m k. eqb m 1 && (eqb k 14 || (eqb k 15 || eqb k 16))) (λ m k r p. search rules) ∙ heads-counted (λ k. (eqb k 14 || (eqb k 15 || eqb k 16))) 0 _

@@ -1,19 +1,15 @@
 -- `vocabulary::place` meets its contract. Assumes nothing.
 use mathlib.Core.Path.{sym, ◌∙◌}
-use native.Mathlib.Omega.{arith}
+use Rattle.vocabulary.proofs.Constants.{first-rest}
 use Rattle.vocabulary.proofs.Laws.{place-letter, place-sign, place_none}
 use Rattle.vocabulary.proofs.place.Goals as goal
 
 pub returns-then-is_letter : goal.returns-then-is_letter
-returns-then-is_letter c =
-    c.seek.ensures ∙ place-letter _ _ _ c.requires.1 c.requires.0 (sym c.is_letter.ensures ∙ c.if-is_letter.true)
+returns-then-is_letter c = rw (c.seek.ensures.index, first-rest c.args.w.now c.requires) (place-letter _ _ (sym c.is_letter.ensures ∙ c.if-is_letter.true))
 
-pub returns-then-k-lt9 : goal.returns-then-k-lt9
-returns-then-k-lt9 c =
-    let e = c.seek-k.ensures in
-    e ∙ place-sign _ _ _ c.requires.1 c.requires.0 (omega arith)
+pub returns-then-k-lt-DEF : goal.returns-then-k-lt-DEF
+returns-then-k-lt-DEF c = c.seek-k.ensures.index ∙ place-sign _ (rw c.seek-k.ensures.index at c.if-k-lt-DEF.true)
 
-pub returns : goal.returns
-returns c =
-    let e = c.seek-k.ensures in
-    place_none _ _ _ c.requires.1 c.requires.0 (sym c.is_letter.ensures ∙ c.if-is_letter.false) (omega arith)
+pub returns-else-k-lt-DEF : goal.returns-else-k-lt-DEF
+returns-else-k-lt-DEF c =
+    rw (first-rest c.args.w.now c.requires) (place_none _ _ (sym c.is_letter.ensures ∙ c.if-is_letter.false) (rw (c.seek-k.ensures.index, first-rest c.args.w.now c.requires) at c.if-k-lt-DEF.false))

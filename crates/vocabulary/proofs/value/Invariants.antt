@@ -1,10 +1,6 @@
--- `vocabulary::value` keeps this in its loops.
-use Prim.Native.Nat.{◌-◌}
+-- `vocabulary::value` keeps this in its loop.
 use Rattle.vocabulary.proofs.Turns.{Valued}
 use Rattle.vocabulary.proofs.value.Given as goal
 
-abbrev pub invariant-loop-i : goal.invariant-loop-i
-invariant-loop-i l = Valued l.s l.a l.b l.n l.i
-
-abbrev pub decreases-loop-i : goal.decreases-loop-i
-decreases-loop-i l = l.b - l.i
+abbrev pub invariant-loop-d : goal.invariant-loop-d
+invariant-loop-d l = Valued l.w l.n l.d-index
