@@ -90,7 +90,8 @@ pub fn next(s: &[u8], at: usize) -> Option<Lexeme>
     let kind = kind_of(*s.get(start)?);
     let end = match kind {
         Kind::Opening | Kind::Closing => start + 1,
-        Kind::Word => start + word_at_front(&s[start..]),
+        // its first byte is known to be a word's
+        Kind::Word => start + 1 + word_at_front(&s[start + 1..]),
     };
     Some(Lexeme { kind, start, end })
 }
@@ -104,7 +105,7 @@ pub fn last(s: &[u8], at: usize) -> Option<Lexeme>
     let kind = kind_of(*s[..end].last()?);
     let start = match kind {
         Kind::Opening | Kind::Closing => end - 1,
-        Kind::Word => end - word_at_end(&s[..end]),
+        Kind::Word => end - 1 - word_at_end(&s[..end - 1]),
     };
     Some(Lexeme { kind, start, end })
 }
