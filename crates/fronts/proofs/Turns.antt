@@ -2,17 +2,19 @@
 use mathlib.Core.Path.{◌≡◌, refl, sym, ◌∙◌}
 use mathlib.Core.Bool.{Bool, true, false, cond, ◌&&◌}
 use mathlib.Core.List.{[], ◌∷◌}
-use Prim.Native.Nat.{ℕ, suc, ◌+◌, ◌*◌, ◌-◌, ◌≤◌, ◌<◌}
+use Prim.Native.Nat.{ℕ, zero, suc, ◌+◌, ◌*◌, ◌-◌, ◌≤◌, ◌<◌, min}
+use native.Mathlib.Nat.{zero-min, min-zero, suc-min-suc}
 use native.Mathlib.Omega.{arith}
 use native.Mathlib.Numerals.{add-one}
 use lib.Dec.{leb}
-use lib.ListN.{length, get_or, drop, drop_of_length-le}
+use lib.ListN.{length, get_or, take, drop, drop_of_length-le}
 use lib.Seq.{drop-cons}
 use borrow.Author.Tests.{leb-true, le-leb, lt-leb}
 use Rattle.std.specs.List.{prefix_len}
-use Rattle.notation.specs.Words.{Word, every, value_from, is_digit, is_count}
+use Rattle.std.proofs.lemmas.List.{take_all}
+use Rattle.notation.specs.Words.{Word, every, value_from, is_letter, is_digit, name_byte, is_count}
 use Rattle.decide.proofs.Picks.{not-both, both}
-use Rattle.fronts.specs.Fronts.{run, count_front}
+use Rattle.fronts.specs.Fronts.{run, name_front, count_front}
 
 one-more : (c : Bool) (n : ℕ) → cond c (1 + n) 0 ≡ cond c (suc n) 0
 one-more true n = omega arith
@@ -25,6 +27,24 @@ run_none f = refl
 pub run_cons : (f : ℕ → Bool) (b : ℕ) (w : Word) → run f (b ∷ w) ≡ cond (f b) (suc (run f w)) 0
 unfolding run
 run_cons f b w = one-more (f b) (prefix_len f w)
+
+-- no more than n of the bytes are looked at
+pub run-first : (f : ℕ → Bool) (w : Word) (n : ℕ) → run f (take (min (length w) n) w) ≡ min n (run f w)
+run-first f [] n = rw (zero-min n, run_none) (sym (min-zero n))
+run-first f (b ∷ w) zero = rw (min-zero, run_none) (sym (zero-min (run f (b ∷ w))))
+run-first f (b ∷ w) (suc n) = rw (suc-min-suc, run_cons f b (take (min (length w) n) w), run_cons f b w) (go (f b) (run-first f w n))
+  where
+    go : (a : Bool) → run f (take (min (length w) n) w) ≡ min n (run f w) → cond a (suc (run f (take (min (length w) n) w))) 0 ≡ min (suc n) (cond a (suc (run f w)) 0)
+    go true e = rw (e, suc-min-suc) refl
+    go false e = sym (min-zero (suc n))
+
+pub name-bounded : (w : Word) → 1 ≤ length w → is_letter (get_or w 0 0) ≡ true
+    → 1 + run name_byte (take (min (length (take (length w - 1) (drop 1 w))) 15) (take (length w - 1) (drop 1 w))) ≡ name_front w
+unfolding name_front
+name-bounded [] h l = absurd (omega arith)
+name-bounded (b ∷ v) h l =
+    let e : take (length (b ∷ v) - 1) v ≡ v = take_all (length (b ∷ v) - 1) v (omega arith) in
+    rw (e, run-first name_byte v 15, l) (omega arith)
 
 -- ---- digits, while their value is in range
 pub digit-range : (d : ℕ) → is_digit d ≡ true → (48 ≤ d) × (d ≤ 57)

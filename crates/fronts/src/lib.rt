@@ -43,13 +43,13 @@ fn run(w: &[u8]) -> usize
     w.iter().take_while(|b| name_byte(**b)).count()
 }
 
-// How many bytes lead that a name may begin with.
+// How many bytes lead that a name may begin with: no more are looked at than a name may have.
 #[tactic(auto, unfolding(crate::specs::Fronts::name_front))]
 pub fn name_front(w: &[u8]) -> usize
     ensures { result ≡ name_front w.now }
 {
     match w {
-        [first, rest @ ..] if is_letter(*first) => 1 + run(rest).min(MORE),
+        [first, rest @ ..] if is_letter(*first) => 1 + run(&rest[..rest.len().min(MORE)]),
         _ => 0,
     }
 }
