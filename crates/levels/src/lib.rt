@@ -33,7 +33,7 @@ const UNHELD: u8 = 18;
 // The moves that leave no level: a definition begins, the token is refused.
 const DEFINITION: u8 = 18;
 
-const REFUSED: u8 = 31;
+pub const REFUSED: u8 = 31;
 
 // How a token moves a level: a row a level, a column a token (operators, reserved words, names, numbers, other words, the brackets). @ and the letters are the levels 0 to 18,
 // ^ is 30, the level ends, _ is 31, the token is refused.
