@@ -54,7 +54,8 @@ impl Table {
         &self.bytes[..self.len]
     }
 
-    fn extend_from_slice(&mut self, bytes: &[u8])
+    // Bytes behind those written, as they are.
+    pub fn extend_from_slice(&mut self, bytes: &[u8])
         requires { length self.old + length bytes.now ≤ ROOM }
         ensures { self.new ≡ self.old ++ bytes.now }
     {
