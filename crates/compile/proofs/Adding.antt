@@ -71,6 +71,7 @@ module _ (t t' : List ℕ) (o : Waiting) (a : Able t o) (k : ℕ) (part : List �
   adds-node : Adds t o t' (pushed o (o.len - k)) (with_node k part)
   adds-node = record {
     long = length-set o.numbers (o.len - k) (byte o.nodes) ∙ a.long;
+    few = (omega arith, omega arith);
     writes = λ q w. node-written t t' o q k part (λ ns. (n ns).of) (λ ns. (n ns).is) w (let x = a.waiting in let y = a.long in omega (arith, x, y)) g;
   }
 
@@ -90,7 +91,7 @@ module _ (s : List ℕ) (top at : ℕ) (h : (top ≤ at) × (at ≤ length s)) w
   here = between top at s
 
   pub form-none : (t : List ℕ) (o : Waiting) → Able t o → Closes here None → Adds t o t o (close_form before (around 0 0 [] [] (reverse (lex here))))
-  form-none t o a c = record { long = a.long; writes = λ q w. rw c.same w }
+  form-none t o a c = record { long = a.long; few = (omega arith, omega arith); writes = λ q w. rw c.same w }
 
   module _ (f : Form) (c : Closes here (Some f)) where
     abbrev found : Around
@@ -134,6 +135,7 @@ pub definition-adds : (t t' : List ℕ) (o : Waiting) (count n x y : ℕ) → Ab
     → Adds t o t' (record { numbers = o.numbers; len = o.len - 1; nodes = o.nodes; defs = o.defs + 1 }) (with_definition count)
 definition-adds t t' o count n x y a en ex ey g = record {
   long = a.long;
+  few = (omega arith, omega arith);
   writes = λ q w. definition-written t t' o q count w
       (subst (λ (k : ℕ). t' ≡ t ++ field_bytes 2 (k ∷ last_of o.numbers o.len ∷ [])) (ex ∙ ap byte en) (subst (λ (k : ℕ). t' ≡ t ++ field_bytes 2 (x ∷ k ∷ [])) ey g));
 }
@@ -146,10 +148,10 @@ pub mode-not : (a b : Mode) (r : Bool) → r ≡ sameb the_type a b → r ≡ fa
 mode-not a b r e f = eqb-false (number_of a) (number_of b) (sym (modes-same a b) ∙ sym e ∙ f)
 
 pub adds-nothing : (t : List ℕ) (o : Waiting) → Able t o → (f : Output → Output) → ((q : Output) → f q ≡ q) → Adds t o t o f
-adds-nothing t o a f e = record { long = a.long; writes = λ q w. rw (e q) w }
+adds-nothing t o a f e = record { long = a.long; few = (omega arith, omega arith); writes = λ q w. rw (e q) w }
 
 pub adds-as : (t t' : List ℕ) (o o' : Waiting) (f g : Output → Output) → ((q : Output) → f q ≡ g q) → Adds t o t' o' g → Adds t o t' o' f
-adds-as t t' o o' f g e a = record { long = a.long; writes = λ q w. rw (e q) (a.writes q w) }
+adds-as t t' o o' f g e a = record { long = a.long; few = a.few; writes = λ q w. rw (e q) (a.writes q w) }
 
 module _ (before here : List Token) (m d : ℕ) (q : Output) where
   pub on-parameters : m ≡ 4 → emitted before here m d closing q ≡ q

@@ -4,10 +4,10 @@ use mathlib.Core.Bool.{Bool, true, false, cond, ◌||◌}
 use mathlib.Core.List.{List, [], ◌∷◌, ◌++◌, append-nil}
 use mathlib.Core.Logic.{◌⊎◌, inl, inr}
 use Rattle.std.specs.Prelude.{Some, None}
-use Prim.Native.Nat.{ℕ, zero, suc, ◌+◌, ◌≤◌, ◌<◌}
+use Prim.Native.Nat.{ℕ, zero, suc, ◌+◌, ◌*◌, ◌≤◌, ◌<◌}
 use native.Mathlib.Omega.{arith}
 use lib.Dec.{eqb, ltb}
-use lib.ListN.{length, take, drop, get_or, replicate, length-replicate}
+use lib.ListN.{length, take, drop, get_or, replicate, length-append, length-replicate}
 use borrow.Author.Tests.{ltb-true, ltb-false}
 use Rattle.program.specs.Check.{check}
 use Rattle.program.specs.Conditions.{field_bytes, definitions_of}
@@ -86,12 +86,20 @@ module _ (s : List ℕ) (top at d m : ℕ) (q : Output) (g : Going s top at d m 
           (one_more s top at d g.cut r e top' t top' (cut-begun s top at d g.cut r e top' t) (cut-top s top at d g.cut r e top' t)));
     }
 
+  -- its bytes are few where its parts are
+  in-all : (t : List ℕ) (o : Waiting) → Writes t o q → length t ≤ 9 * o.nodes + 5 * o.defs
+  in-all t o w = let c = counted.small in let b = ap length w.bytes in omega (arith, b, c, w.nodes, w.defs)
+
   -- ---- the end of the text
   whole : lex (drop at s) ≡ [] → lex (take at s) ≡ lex s
   whole z = sym (parted-splits s at g.cut.cut_here ∙ ap (λ (l : List Token). lex (take at s) ++ l) z ∙ append-nil (lex (take at s)))
 
-  pub ended : lex (drop at s) ≡ [] → (t t' : List ℕ) (o : Waiting) → Writes t o q → t' ≡ t ++ field_bytes 3 (last_of o.numbers o.len ∷ []) → Compiles s t'
-  ended z t t' o w u = record { same = λ p f l. ap check (all p f l); whole = λ p f l c. all p f l }
+  pub ended : lex (drop at s) ≡ [] → (t t' : List ℕ) (o : Waiting) → Writes t o q → t' ≡ t ++ field_bytes 3 (last_of o.numbers o.len ∷ []) → o.nodes ≤ 256 → o.defs ≤ 32 → Compiles s t'
+  ended z t t' o w u n k = record {
+    same = λ p f l. ap check (all p f l);
+    whole = λ p f l c. all p f l;
+    within = (let b = in-all t o w in let e = ap length u in let a = length-append t (field_bytes 3 (last_of o.numbers o.len ∷ [])) in omega (arith, b, e, a, n, k));
+  }
     where
       all : (p : Program) → FineProgram p → lex s ≡ program_tokens p → t' ≡ table p
       all p f l =
@@ -101,8 +109,12 @@ module _ (s : List ℕ) (top at d m : ℕ) (q : Output) (g : Going s top at d m 
           ∙ sym (table-emitted p f ∙ ap (λ (x : Output). flat_fields x.parts ++ field_bytes 3 (byte (get_or x.stack 0 0) ∷ [])) y)
 
   -- ---- more nodes or definitions than a table holds
-  pub full : (t : List ℕ) (o : Waiting) → Writes t o q → (256 < o.nodes) ⊎ (32 < o.defs) → Compiles s t
-  full t o w v = record { same = λ p f l. (cut_short p f l).0; whole = λ p f l c. absurd ((cut_short p f l).1 c) }
+  pub full : (t : List ℕ) (o : Waiting) → Writes t o q → (256 < o.nodes) ⊎ (32 < o.defs) → o.nodes ≤ 257 → o.defs ≤ 33 → Compiles s t
+  full t o w v n k = record {
+    same = λ p f l. (cut_short p f l).0;
+    whole = λ p f l c. absurd ((cut_short p f l).1 c);
+    within = (let b = in-all t o w in omega (arith, b, n, k));
+  }
     where
       over : (256 < o.nodes) ⊎ (32 < o.defs) → Overfull q.parts
       over (inl x) = inl (let c = counted.nodes in omega (arith, x, c, w.nodes))
@@ -157,7 +169,7 @@ module _ {s t : List ℕ} {o : Waiting} {top at d m : ℕ} (g : Making s t o top
 
   pub making-end : next_lexeme s at ≡ None → (t' : List ℕ) (x : ℕ) → x ≡ last_of o.numbers o.len → t' ≡ t ++ field_bytes 3 (x ∷ []) → Compiles s t'
   making-end z t' x e u =
-      ended s top at d m g.output g.going (next-end s at g.going.cut.within z) t t' o g.writes (subst (λ (n : ℕ). t' ≡ t ++ field_bytes 3 (n ∷ [])) e u)
+      ended s top at d m g.output g.going (next-end s at g.going.cut.within z) t t' o g.writes (subst (λ (n : ℕ). t' ≡ t ++ field_bytes 3 (n ∷ [])) e u) g.nodes g.defs
 
   module _ (r : Lexeme) (e : next_lexeme s at ≡ Some r) where
     pub making-within : Behind s at r
@@ -177,7 +189,9 @@ module _ {s t : List ℕ} {o : Waiting} {top at d m : ℕ} (g : Making s t o top
             (sym (depth-kind d r.kind (between r.start r.end s))) (depth-most d r.kind) refl refl
 
         pub making-full : (ltb 256 o'.nodes || ltb 32 o'.defs) ≡ true → Compiles s t'
-        making-full h = full s top' r.end (depth_by d r.kind) (mode_after m (token_code (token_of s r))) q' on t' o' (a.writes g.output g.writes) (over o'.nodes o'.defs h)
+        making-full h =
+            full s top' r.end (depth_by d r.kind) (mode_after m (token_code (token_of s r))) q' on t' o' (a.writes g.output g.writes) (over o'.nodes o'.defs h)
+            (let f = a.few.0 in omega (arith, f, g.nodes)) (let f = a.few.1 in omega (arith, f, g.defs))
 
         pub making-next : (ltb 256 o'.nodes || ltb 32 o'.defs) ≡ false → (d' k m' : ℕ) → d' ≡ depth_by d r.kind → k ≡ token_code (token_of s r) → m' ≡ mode_after m k
             → Making s t' o' top' r.end d' m'

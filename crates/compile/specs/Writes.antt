@@ -33,12 +33,14 @@ pub record Able (t : List ℕ) (o : Waiting) : Type 0 where
   pub defs : o.defs ≤ 32
   pub small : length t + o.len ≤ 2464
 
--- what a function has added: the output that was written, with f of it
+-- what a function has added: the output that was written, with f of it, a node and a definition at most
 pub record Adds (t : List ℕ) (o : Waiting) (t' : List ℕ) (o' : Waiting) (f : Output → Output) : Type 0 where
   pub long : length o'.numbers ≡ 257
+  pub few : (o'.nodes ≤ o.nodes + 1) × (o'.defs ≤ o.defs + 1)
   pub writes : (q : Output) → Writes t o q → Writes t' o' (f q)
 
 -- the bytes are the table of the text's program, or as much of it as the check refuses alike
 pub record Compiles (s t : List ℕ) : Type 0 where
   pub same : (p : Program) → FineProgram p → lex s ≡ program_tokens p → check t ≡ check (table p)
   pub whole : (p : Program) → FineProgram p → lex s ≡ program_tokens p → (check (table p)).0 ≡ 0 → t ≡ table p
+  pub within : length t ≤ 2560

@@ -20,7 +20,7 @@ use vocabulary::{FOLD, REP};
 
 // The numbers that wait, the last first to go, and how many nodes and definitions the table has.
 // Stays (c): the table is beside it, since the borrow checker covers no call that lends the table to be written and the numbers to be read where both are fields of one struct.
-#[derive(Drop)]
+#[derive(Clone, Copy)]
 pub struct Waiting {
     numbers: [u8; 257],
     len: usize,
@@ -159,6 +159,15 @@ pub fn compile(s: &[u8]) -> Table
     ensures { Compiles s.now result }
 {
     let mut table = Table::new();
+    fill(s, &mut table);
+    table
+}
+
+// The same in a table of the caller's, which is empty.
+pub fn fill(s: &[u8], table: &mut Table)
+    requires { table.old ≡ [] }
+    ensures { Compiles s.now table.new }
+{
     let mut waiting = Waiting {
         numbers: [0; 257],
         len: 0,
@@ -171,14 +180,13 @@ pub fn compile(s: &[u8]) -> Table
     let mut mode = Mode::Elsewhere;
     while let Some(l) = lexemes::next(s, at) {
         top = token_scans::form_start(depth, top, l.start);
-        token_done(&mut table, &mut waiting, s, top, mode, depth, l);
+        token_done(table, &mut waiting, s, top, mode, depth, l);
         if waiting.is_full() {
-            return table;
+            return;
         }
         depth = lexemes::depth_after(depth, l.kind);
         mode = mode.after(vocabulary::token_code(l.kind, &s[l.start..l.end]));
         at = l.end;
     }
     table.main_node(waiting.last());
-    table
 }

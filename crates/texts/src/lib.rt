@@ -4,6 +4,7 @@
 ghost use Rattle.translation.specs.Reads.{Reads};
 ghost use Rattle.verdict.specs.Outcome.{length_outcome};
 
+use table_writer::Table;
 use verdict::{Reason, Refusal};
 
 // The table of a text, at the start of the slice: its length, or the refusal.
@@ -22,7 +23,8 @@ pub fn read_text(text: &[u8], table: &mut [u8]) -> Result<usize, Refusal>
             place: 0,
         });
     }
-    let written = compile::compile(text);
+    let mut written = Table::new();
+    compile::fill(text, &mut written);
     let bytes = written.as_slice();
     program_check::check(bytes)?;
     let n = bytes.len();

@@ -1,10 +1,10 @@
--- `compile::compile` meets its contract. Assumes nothing.
+-- `compile::fill` meets its contract. Assumes nothing.
 use Rattle.std.proofs.Common.{sym, ◌∙◌, arith}
 use Rattle.compile.proofs.Turning.{making-first, making-able, making-end, making-within, making-begun, making-full, making-next}
-use Rattle.compile.proofs.compile.Goals as goal
+use Rattle.compile.proofs.fill.Goals as goal
 
 pub loop-l-init : goal.loop-l-init
-loop-l-init c = rw c.new-table.ensures (making-first _)
+loop-l-init c = rw c.requires (making-first _)
 
 pub token_done-requires : goal.token_done-requires
 token_done-requires c =
