@@ -7,7 +7,8 @@ use Prim.Native.Nat.{ℕ, ◌≤◌, ◌<◌}
 use native.Mathlib.Omega.{arith}
 use lib.Dec.{eqb, ltb}
 use lib.ListN.{length, drop}
-use borrow.Author.Tests.{lt-ltb, le-ltb}
+use borrow.Author.Tests.{ne_eqb, lt-ltb, le-ltb}
+use Rattle.std.specs.Prelude.{Result, Ok, Err}
 use Rattle.program.specs.Check.{Verdict, check}
 use Rattle.notation.specs.Grammar.{Program, program_tokens, FineProgram}
 use Rattle.notation.specs.Text.{Spaced, Text}
@@ -21,7 +22,8 @@ use Rattle.translation.specs.Reads.{compiled, Reads}
 use Rattle.verdict.specs.declared.Reason.{Reason}
 use Rattle.verdict.specs.declared.Reason.TheVariants.{BadField, TooMany, OutOfRange, NotGiven, Taken, BadEnd, WrongSort, Misread, Misused, TooCostly, Unsound, BadList, ShortSpace, BadItem, Itself, NothingPending}
 use Rattle.verdict.specs.declared.Reason.TheVariants.{DividedByZero, BadFile, Outside, BadName}
-use Rattle.verdict.specs.Outcome.{number_of}
+use Rattle.verdict.specs.declared.Refusal.{Refusal}
+use Rattle.verdict.specs.Outcome.{number_of, refusal_at}
 use Rattle.parse.specs.Passed.{ends}
 use Rattle.bindings.specs.Good.{names_pass}
 use Rattle.bindings.proofs.Names.{names-exactly}
