@@ -6,7 +6,7 @@ use Rattle.std.specs.Prelude.{Err}
 use Rattle.verdict.specs.declared.Reason.TheVariants.{BadField}
 use Rattle.shapes.proofs.ByKind.{kind-of-number}
 use Rattle.shapes.proofs.Inside.{slot-in}
-use Rattle.kinds.proofs.Fields.{shaped, wrong-length, body-refused, read, out_of_range, no-children, slot-last, slot-outside, byte-parts}
+use Rattle.kinds.proofs.Fields.{shaped, wrong-length, body-refused, item-refused, read, out_of_range, childless, slot-last, slot-outside, byte-parts}
 use Rattle.kinds.proofs.measure.Goals as goal
 
 pub returns-in_err-item : goal.returns-in_err-item
@@ -26,9 +26,9 @@ returns-in_err-take c =
     let e = c.in_ok-item.ensures in
     let z = nil_from_length c.in_ok-item.children.now (let l = ap length e.1 in omega (arith, length-drop 1 c.args.s.now)) in
     let r : c.from_residual-in_err-take.result ≡ Err c.in_err-take.field-0.0 = search rules in
-    λ n defs counts named kept h. rw r (body-refused (shaped h c.requires.0)
+    λ n defs counts named kept h. rw r (item-refused (shaped h c.requires.0)
     (byte-parts {i = c.in_ok-item.item} {ks = c.in_ok-item.children.now} c.args.s.now refl refl (cc) (cc) (omega arith))
-    (slot-last (rw z no-children) (slot-in c.if-item-eq0.false c.if-item-ge-SLOTS.false).is c.in_err-take.ensures))
+    (slot-last (childless z) (slot-in c.if-item-eq0.false c.if-item-ge-SLOTS.false).is c.in_err-take.ensures))
 
 pub returns : goal.returns
 returns c =
@@ -36,5 +36,5 @@ returns c =
     let z = nil_from_length c.in_ok-item.children.now (let l = ap length e.1 in omega (arith, length-drop 1 c.args.s.now)) in
     λ n defs counts named kept h. read (shaped h c.requires.0)
     (byte-parts {i = c.in_ok-item.item} {ks = c.in_ok-item.children.now} c.args.s.now refl refl (cc) (cc) (omega arith)) (kind-of-number c.args.kind)
-    (slot-last (rw z no-children) (slot-in c.if-item-eq0.false c.if-item-ge-SLOTS.false).is c.in_ok-take.ensures)
+    (slot-last (childless z) (slot-in c.if-item-eq0.false c.if-item-ge-SLOTS.false).is c.in_ok-take.ensures)
     c.node.ensures
