@@ -104,6 +104,9 @@ pub no-children : {n : ℕ} {named : List Bool} → TakesKids [] n named (Ok tt)
 unfolding beyond taken_in with_taken
 no-children = record { number = refl; after = λ _. refl }
 
+pub childless : {ks : List ℕ} {n : ℕ} {named : List Bool} → ks ≡ [] → TakesKids ks n named (Ok tt) named
+childless e = rw e no-children
+
 -- ---- a kind and what follows it, as far as the rows before the body's
 pub record Shaped (kind : ℕ) (s counts : List ℕ) (n defs l w k : ℕ) : Type 0 where
   pub room : n < node_limit
@@ -169,6 +172,10 @@ module _ {kind : ℕ} {s counts : List ℕ} {n defs : ℕ} where
 
       pub body-refused : {m m' : Taken} {q : Reason} → Body l i c ks n defs m (number_of q) m' → ReadsNode (kind ∷ s) n defs counts m (Err q) m'
       body-refused {m} {m'} {q} t = record { number = body t; node = tt; after = λ z. absurd (numbered q z) }
+
+      -- a refusal where the item is taken, whatever the flags are then
+      pub item-refused : {m m' m'' : Taken} {q : Reason} → Body l i c ks n defs m (number_of q) m'' → ReadsNode (kind ∷ s) n defs counts m (Err q) m'
+      item-refused {q = q} t = body-refused (record { number = t.number; after = λ z. absurd (numbered q z) })
 
       pub read : {m m' : Taken} {x : Node} {o : Kind} → kind_at kind ≡ o → Body l i c ks n defs m 0 m'
           → x ≡ record { kind = o; item = i; kids = length ks; children = four_of ks; constant = c } → ReadsNode (kind ∷ s) n defs counts m (Ok x) m'

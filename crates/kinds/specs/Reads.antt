@@ -51,10 +51,14 @@ abbrev pub ReadsKids : ℕ → List ℕ → ℕ → List Bool → Result Node Re
 ReadsKids kind s n named r named' =
     (defs : ℕ) (counts : List ℕ) (slots kept : List Bool) → ReadsNode (kind ∷ s) n defs counts (taken_of named slots kept) r (taken_of named' slots kept)
 
--- one that has a slot; that keeps a variable
+-- one that has a slot; a slot and nothing else; that keeps a variable
 abbrev pub ReadsSlot : ℕ → List ℕ → ℕ → List Bool → List Bool → Result Node Reason → List Bool → List Bool → Type 0
 ReadsSlot kind s n named slots r named' slots' =
     (defs : ℕ) (counts : List ℕ) (kept : List Bool) → ReadsNode (kind ∷ s) n defs counts (taken_of named slots kept) r (taken_of named' slots' kept)
+
+abbrev pub ReadsSlotOnly : ℕ → List ℕ → List Bool → Result Node Reason → List Bool → Type 0
+ReadsSlotOnly kind s slots r slots' =
+    (n defs : ℕ) (counts : List ℕ) (named kept : List Bool) → n < node_limit → ReadsNode (kind ∷ s) n defs counts (taken_of named slots kept) r (taken_of named slots' kept)
 
 abbrev pub ReadsKept : ℕ → List ℕ → ℕ → List Bool → List Bool → Result Node Reason → List Bool → List Bool → Type 0
 ReadsKept kind s n named kept r named' kept' =

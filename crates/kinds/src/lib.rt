@@ -6,7 +6,7 @@ ghost use Rattle.program.specs.Table.{node_limit};
 ghost use Rattle.shapes.specs.Shapes.{byte_values, no_item, operator_item, slot_item};
 ghost use Rattle.shapes.specs.Kinds.{number_of, constant_kind, rep_kind, fold_by_kind, call_kind};
 ghost use Rattle.kinds.specs.Taken.{taken_of};
-ghost use Rattle.kinds.specs.Reads.{Form, Limited, node_with, ReadsNode, ReadsLeaf, ReadsKids, ReadsSlot, ReadsKept};
+ghost use Rattle.kinds.specs.Reads.{Form, Limited, node_with, ReadsNode, ReadsLeaf, ReadsKids, ReadsSlot, ReadsSlotOnly, ReadsKept};
 
 use nodes::{Node, get};
 use shapes::Kind;
@@ -134,7 +134,7 @@ pub fn rep(
     Ok(node(Kind::Rep, variable, children))
 }
 
-// A slot: of an nbr, with one child, or of an nbr-range or an nbr-lag.
+// A slot, and the children behind it: of an nbr, with one child. One without children is a measure.
 pub fn slotted(
     kind: Kind,
     kids: usize,
@@ -146,6 +146,9 @@ pub fn slotted(
     requires { Form (number_of kind) slot_item 1 kids × (kids < 4) × (n < node_limit) × (length named.old ≡ node_limit) × (length slots.old ≡ byte_values) }
     ensures { ReadsSlot (number_of kind) s.now n named.old slots.old result named.new slots.new }
 {
+    if kids == 0 {
+        return measure(kind, s, slots);
+    }
     let (slot, children) = parts(s, kids)?;
     if slot == 0 || SLOTS <= slot {
         return Err(Reason::OutOfRange);
@@ -153,6 +156,19 @@ pub fn slotted(
     taken::children(children, n, named)?;
     taken::take(slot, slots)?;
     Ok(node(kind, slot, children))
+}
+
+// The slot of an nbr-range or an nbr-lag.
+pub fn measure(kind: Kind, s: &[u8], slots: &mut [bool; layout::BYTES]) -> Result<Node, Reason>
+    requires { Form (number_of kind) slot_item 1 0 × (length slots.old ≡ byte_values) }
+    ensures { ReadsSlotOnly (number_of kind) s.now slots.old result slots.new }
+{
+    let (item, children) = parts(s, 0)?;
+    if item == 0 || SLOTS <= item {
+        return Err(Reason::OutOfRange);
+    }
+    taken::take(item, slots)?;
+    Ok(node(kind, item, children))
 }
 
 // The definition that a fold is by, and two children.

@@ -51,7 +51,7 @@ pub fn read_node(
         Kind::Rep => kinds::rep(s, n, named, kept),
         Kind::If | Kind::Mux => kinds::plain(kind, 3, s, n, named),
         Kind::Nbr => kinds::slotted(kind, 1, s, n, named, slots),
-        Kind::Range | Kind::Lag => kinds::slotted(kind, 0, s, n, named, slots),
+        Kind::Range | Kind::Lag => kinds::measure(kind, s, slots),
         Kind::FoldBy => kinds::fold_by(s, n, defs, named),
         Kind::Call => kinds::call(s, n, defs, counts, named),
     }

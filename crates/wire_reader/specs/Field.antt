@@ -1,6 +1,6 @@
 -- What the first field of a list is, and that it is the field that wire's definition finds there. Definitions only: nothing is assumed.
 use Rattle.std.specs.Prelude.{List, [], ◌∷◌, cond, ℕ, ◌+◌, ◌*◌, length, take, drop, leb, Option, Some, None}
-use Rattle.wire.specs.Wire.{Fields, end, cut, whole, fields_of}
+use Rattle.wire.specs.Wire.{Fields, end, cut, whole, fields_in, fields_of}
 
 -- tag, body and what follows them, or none: under three bytes, or a body past the end
 abbrev pub split_of : List ℕ → Option (ℕ × List ℕ × List ℕ)
@@ -16,3 +16,9 @@ abbrev pub fields_by : List ℕ → Option (ℕ × List ℕ × List ℕ) → Fie
 fields_by s (Some f) = whole f.0 f.1 (fields_of f.2)
 fields_by [] None = end
 fields_by (b ∷ s) None = cut
+
+-- the same with k more fields at the most behind the first
+abbrev pub fields_from : ℕ → List ℕ → Option (ℕ × List ℕ × List ℕ) → Fields
+fields_from k s (Some f) = whole f.0 f.1 (fields_in k f.2)
+fields_from k [] None = end
+fields_from k (b ∷ s) None = cut

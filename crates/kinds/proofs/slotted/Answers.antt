@@ -4,7 +4,7 @@ use Rattle.std.specs.Prelude.{Err}
 use Rattle.verdict.specs.declared.Reason.TheVariants.{BadField}
 use Rattle.shapes.proofs.ByKind.{kind-of-number}
 use Rattle.shapes.proofs.Inside.{slot-in}
-use Rattle.kinds.proofs.Fields.{shaped, wrong-length, body-refused, read, out_of_range, child-refused, slot-last, slot-outside, byte-parts}
+use Rattle.kinds.proofs.Fields.{shaped, wrong-length, body-refused, item-refused, read, out_of_range, child-refused, slot-last, slot-outside, byte-parts}
 use Rattle.kinds.proofs.slotted.Goals as goal
 
 pub returns-in_err-slot : goal.returns-in_err-slot
@@ -29,7 +29,7 @@ pub returns-in_err-take : goal.returns-in_err-take
 returns-in_err-take c =
     let e = c.in_ok-slot.ensures in
     let r : c.from_residual-in_err-take.result ≡ Err c.in_err-take.field-0.0 = search rules in
-    λ defs counts kept. rw r (body-refused (shaped c.requires.2 (c.requires.0)) (byte-parts {i = c.in_ok-slot.slot} {ks = c.in_ok-slot.children.now} c.args.s.now refl refl (cc) (cc) (omega arith))
+    λ defs counts kept. rw r (item-refused (shaped c.requires.2 (c.requires.0)) (byte-parts {i = c.in_ok-slot.slot} {ks = c.in_ok-slot.children.now} c.args.s.now refl refl (cc) (cc) (omega arith))
     (slot-last c.in_ok-children.ensures (slot-in c.if-slot-eq0.false c.if-slot-ge-SLOTS.false).is c.in_err-take.ensures))
 
 pub returns : goal.returns

@@ -42,7 +42,7 @@ pub returns-in-Nbr : goal.returns-in-Nbr
 returns-in-Nbr c = as-read c.args.b.now c.in-len1-up.len_at_least (named-is _ (sym c.of.ensures ∙ c.in-Some.is)) (c.slotted.ensures _ _ _)
 
 pub returns-in-Range : goal.returns-in-Range
-returns-in-Range c = as-read c.args.b.now c.in-len1-up.len_at_least (named-is _ (sym c.of.ensures ∙ c.in-Some.is)) (c.slotted-in-Range.ensures _ _ _)
+returns-in-Range c = as-read c.args.b.now c.in-len1-up.len_at_least (named-is _ (sym c.of.ensures ∙ c.in-Some.is)) (c.measure.ensures _ _ _ _ _ c.if-n-ge-NODES.false)
 
 pub returns-in-FoldBy : goal.returns-in-FoldBy
 returns-in-FoldBy c = as-read c.args.b.now c.in-len1-up.len_at_least (named-is _ (sym c.of.ensures ∙ c.in-Some.is ∙ ap Some c.in-FoldBy.is)) (c.fold_by.ensures _ _ _)
