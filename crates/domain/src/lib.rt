@@ -23,7 +23,7 @@ pub struct Domain {
 }
 
 impl Domain {
-    // How many devices there are. Stays (a): "ones give its size" is a fixed form (docs/DECISIONS.md, on code places).
+    // How many devices there are: "ones give its size". `zero_in` takes as many turns.
     #[tactic(auto, using(crate::proofs::Laws::walks))]
     pub fn size(self) -> u32
         ensures { result ≡ length (members self.bits) }
@@ -132,15 +132,20 @@ impl Held {
     }
 }
 
-// Whether a cell in the domain is 0.
-#[tactic(auto, using(arith::proofs::Signs::reads), unfolding(crate::specs::Members::any_zero))]
+// Whether a cell in the domain is 0. The walk is as long as the size says, which goes down with each device.
+#[tactic(auto, using(arith::proofs::Signs::reads, crate::proofs::Laws::none_in), unfolding(crate::specs::Members::any_zero))]
 fn zero_in(dom: Domain, ys: &[i32; DEVICES]) -> bool
     ensures { result ≡ any_zero (members dom.bits) ys.now }
 {
-    for k in dom {
+    let mut left = dom;
+    for _ in 0..dom.size() {
+        let Some((k, rest)) = left.split_lowest() else {
+            unreachable!()
+        };
         if ys[k] == 0 {
             return true;
         }
+        left = rest;
     }
     false
 }
