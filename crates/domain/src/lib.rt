@@ -7,10 +7,10 @@ ghost use Rattle.std.specs.Int.Count.{count_trailing_zeros};
 ghost use Rattle.std.specs.Iterator.{item_count};
 ghost use Rattle.domain.specs.Walk.{Takes};
 ghost use Rattle.bits.specs.Bits.{has_bit};
-ghost use Rattle.number.specs.Number.{operation_result, over};
+ghost use Rattle.number.specs.Number.{operator_of, operation_result, over};
 ghost use Rattle.field.specs.Field.{everywhere, pointwise, faults_in};
 ghost use Rattle.arith.specs.Named.{named};
-ghost use Rattle.domain.specs.Held.{held};
+ghost use Rattle.domain.specs.Held.{field_of, held};
 ghost use Rattle.domain.specs.Members.{members, any_zero};
 
 use arith::Operator;
@@ -129,6 +129,33 @@ impl Held {
             cells: lanes(o, dom, &self.cells, &right.cells),
             dom,
         }
+    }
+}
+
+// Whether the devices that two fields share have a divisor 0, by the operator's number in a table. A field is lent as its domain and its cells.
+#[tactic(auto, using(crate::proofs::Fields::fields))]
+pub fn faults_in(
+    o: u8,
+    left: Domain,
+    xs: &[i32; DEVICES],
+    right: Domain,
+    ys: &[i32; DEVICES],
+) -> bool
+    ensures { result ≡ faults_in (operator_of o) (field_of left.bits xs.now) (field_of right.bits ys.now) }
+{
+    Operator::from(o) == Operator::Over && zero_in(left.shared(right), ys)
+}
+
+// That operator on two fields, lent likewise.
+#[tactic(auto, using(crate::proofs::Fields::fields))]
+pub fn shared(o: u8, left: Domain, xs: &[i32; DEVICES], right: Domain, ys: &[i32; DEVICES]) -> Held
+    requires { faults_in (operator_of o) (field_of left.bits xs.now) (field_of right.bits ys.now) ≡ false }
+    ensures { held result ≡ pointwise (operator_of o) (field_of left.bits xs.now) (field_of right.bits ys.now) }
+{
+    let dom = left.shared(right);
+    Held {
+        cells: lanes(Operator::from(o), dom, xs, ys),
+        dom,
     }
 }
 

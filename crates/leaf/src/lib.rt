@@ -9,7 +9,6 @@ ghost use Rattle.words.specs.Trees.{tree_at};
 ghost use Rattle.apply.specs.State.{state_of, Gives};
 ghost use Rattle.leaf.specs.Asked.{IsLeaf, IsPair};
 
-use arith::Operator;
 use layout::{NODES, STATE};
 use unpack::{CONSTANT, PARAMETER};
 
@@ -36,5 +35,5 @@ pub fn pair(t: &[u64; NODES], st: &mut [i32; STATE], env: &[i32; 4], n: u16) -> 
     let w = t[n as usize];
     let x = leaf(t, st, env, unpack::first(w));
     let y = leaf(t, st, env, unpack::second(w));
-    apply::number_op(st, n, Operator::from(unpack::item_of(w)), x, y)
+    apply::number_op(st, n, unpack::item_of(w), x, y)
 }
