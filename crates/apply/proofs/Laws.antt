@@ -12,11 +12,9 @@ use mir.Syntax.{w32}
 use mir.Val.{SFits, of_z, to_z}
 use mir.ValLaws.{to_z-of_z}
 use mir.Facts.{sfits_lit}
-use Rattle.number.specs.Number.{Operator, operator_of, operation_result, faults}
-use Rattle.arith.specs.Named.{named}
-use Rattle.arith.specs.declared.operator.Operator as arith
+use Rattle.number.specs.Number.{Operator, operation_result, faults}
 use Rattle.field.specs.Field.{Field, pointwise, faults_in}
-use Rattle.round.specs.Round.{State, Value, number, field, Outcome, done, fault, then_value, then_number, field_of, stored, sending, operated, on_numbers, on_fields}
+use Rattle.round.specs.Round.{State, Value, number, field, Outcome, done, fault, then_value, field_of, stored, sending, operated, on_numbers, on_fields}
 use Rattle.apply.specs.State.{sent_at, fault_at, state_of, fault_of, LeftBy}
 use Rattle.arith.proofs.Signs.{same_bits, is_zero, not_zero}
 use Rattle.domain.proofs.Fields.{faultless_operator}
@@ -106,10 +104,10 @@ module _ (n : ℕ) (o : Operator) where
 -- what `grind` is told of them
 pub ruleset outcomes = (to_z-of_z, is_zero, not_zero, faultless_operator, numbers_fault, numbers_give, fields_fault, fields_give)
 
--- the operator that a table's number names, on numbers that were passed on
-pub numbers-named : (n : ℕ) (o : arith.Operator) (k : ℕ) (s : State) {w : Value} {r : List ℤ} (x y : ℤ) → named o ≡ operator_of k → SFits w32 x → SFits w32 y
-    → LeftBy (on_numbers n (named o) (to_z w32 (of_z w32 x)) (to_z w32 (of_z w32 y)) s) w r → LeftBy (on_numbers n (operator_of k) x y s) w r
-numbers-named n o k s x y e f g h = rw (e, to_z-of_z w32 x f, to_z-of_z w32 y g) at h
+-- numbers that were passed on
+pub numbers-read : (n : ℕ) (o : Operator) (s : State) {w : Value} {r : List ℤ} (x y : ℤ) → SFits w32 x → SFits w32 y
+    → LeftBy (on_numbers n o (to_z w32 (of_z w32 x)) (to_z w32 (of_z w32 y)) s) w r → LeftBy (on_numbers n o x y s) w r
+numbers-read n o s x y f g h = rw (to_z-of_z w32 x f, to_z-of_z w32 y g) at h
 
 -- ---- a node that stores a variable, or sends a slot
 module _ (st : List ℤ) (i : ℕ) {x z : ℤ} (h : i < 16) (e : z ≡ x) (c : fault_of st ≡ pos 0) where

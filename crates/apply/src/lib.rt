@@ -4,8 +4,7 @@
 #![tactic(auto)]
 
 ghost use Rattle.std.specs.Prelude.{◌≡◌, ◌+◌, ◌<◌, pos, length};
-ghost use Rattle.number.specs.Number.{div};
-ghost use Rattle.arith.specs.Named.{named};
+ghost use Rattle.number.specs.Number.{div, operator_of};
 ghost use Rattle.domain.specs.Held.{held};
 ghost use Rattle.domain.specs.Members.{places};
 ghost use Rattle.round.specs.Round.{State, number, done, on_numbers, on_fields, folded, is_true, sensed};
@@ -47,46 +46,49 @@ fn divide(st: &mut [i32; STATE], n: u16, x: i32, y: i32) -> i32
 
 // Node n's operator on two numbers. Division stands apart, so that the rest is small enough to be put in place where it is called.
 #[tactic(auto, using(crate::proofs::Laws::outcomes), unfolding(number::specs::Number::faults, number::specs::Number::operation_result))]
-pub fn number_op(st: &mut [i32; STATE], n: u16, o: Operator, x: i32, y: i32) -> i32
+pub fn number_op(st: &mut [i32; STATE], n: u16, o: u8, x: i32, y: i32) -> i32
     requires { (n < node_numbers) × (fault_of st.old ≡ pos 0) }
-    ensures { Gives (on_numbers n (named o) x y (state_of st.old)) result st.new }
+    ensures { Gives (on_numbers n (operator_of o) x y (state_of st.old)) result st.new }
 {
-    if o == Operator::Over {
+    let operator = Operator::from(o);
+    if operator == Operator::Over {
         divide(st, n, x, y)
     } else {
-        o.operate(x, y)
+        operator.operate(x, y)
     }
 }
 
 // And on two fields.
-pub fn field_op(st: &mut [i32; STATE], n: u16, o: Operator, left: &Held, right: &Held) -> Held
+pub fn field_op(st: &mut [i32; STATE], n: u16, o: u8, left: &Held, right: &Held) -> Held
     requires { (n < node_numbers) × (fault_of st.old ≡ pos 0) }
-    ensures { GivesField (on_fields n (named o) (held left.now) (held right.now) (state_of st.old)) result st.new }
+    ensures { GivesField (on_fields n (operator_of o) (held left.now) (held right.now) (state_of st.old)) result st.new }
 {
-    if left.faults_in(o, right) {
+    let operator = Operator::from(o);
+    if left.faults_in(operator, right) {
         fault(st, n);
         return Held::no_field();
     }
-    left.shared(o, right)
+    left.shared(operator, right)
 }
 
 // And folded over a field, lowest device first: a turn for each device.
-pub fn fold_op(st: &mut [i32; STATE], n: u16, o: Operator, from: i32, field: &Held) -> Walk
+pub fn fold_op(st: &mut [i32; STATE], n: u16, o: u8, from: i32, field: &Held) -> Walk
     requires { (n < node_numbers) × (fault_of st.old ≡ pos 0) }
-    ensures { Walks (λ x y s. on_numbers n (named o) x y s) (held field.now) from (state_of st.old) result st.new }
+    ensures { Walks (λ x y s. on_numbers n (operator_of o) x y s) (held field.now) from (state_of st.old) result st.new }
 {
+    let operator = Operator::from(o);
     let mut value = from;
     let mut turns = 0;
     for k in field.dom {
         turns += 1;
         let y = field.cells[k];
-        if o.zero_divisor(y) {
+        if operator.zero_divisor(y) {
             return Walk {
                 value: fault(st, n),
                 turns,
             };
         }
-        value = o.operate_any(value, y);
+        value = operator.operate_any(value, y);
     }
     Walk { value, turns }
 }

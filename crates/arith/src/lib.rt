@@ -3,8 +3,8 @@
 
 mod operator;
 
-ghost use Rattle.std.specs.Prelude.{◌≡◌, ◌≢◌, pos};
-ghost use Rattle.number.specs.Number.{brought, plus, minus, times, over};
+ghost use Rattle.std.specs.Prelude.{◌≡◌, ◌≢◌, false, pos};
+ghost use Rattle.number.specs.Number.{operator_of, brought, plus, minus, times, over, operation_result, faults};
 
 pub use operator::Operator;
 
@@ -66,4 +66,28 @@ pub fn div(x: i32, y: i32) -> i32
     } else {
         bring(i64::from(x) / i64::from(y))
     }
+}
+
+// Any operator but division, by the number that a table has for it.
+#[tactic(auto, unfolding(number::specs::Number::operator_of))]
+pub fn operate(o: u8, x: i32, y: i32) -> i32
+    requires { o ≡ 3 → ⊥ }
+    ensures { result ≡ operation_result (operator_of o) x y }
+{
+    Operator::from(o).operate(x, y)
+}
+
+// Whether that is a division by y = 0.
+pub fn zero_divisor(o: u8, y: i32) -> bool
+    ensures { result ≡ faults (operator_of o) y }
+{
+    Operator::from(o).zero_divisor(y)
+}
+
+// One that is no division by 0.
+pub fn operate_any(o: u8, x: i32, y: i32) -> i32
+    requires { faults (operator_of o) y ≡ false }
+    ensures { result ≡ operation_result (operator_of o) x y }
+{
+    Operator::from(o).operate_any(x, y)
 }

@@ -7,10 +7,10 @@ ghost use Rattle.std.specs.Int.Count.{count_trailing_zeros};
 ghost use Rattle.std.specs.Iterator.{item_count};
 ghost use Rattle.domain.specs.Walk.{Takes};
 ghost use Rattle.bits.specs.Bits.{has_bit};
-ghost use Rattle.number.specs.Number.{operation_result, over};
+ghost use Rattle.number.specs.Number.{operator_of, operation_result, over};
 ghost use Rattle.field.specs.Field.{everywhere, pointwise, faults_in};
 ghost use Rattle.arith.specs.Named.{named};
-ghost use Rattle.domain.specs.Held.{held};
+ghost use Rattle.domain.specs.Held.{field_of, held};
 ghost use Rattle.domain.specs.Members.{members, any_zero};
 
 use arith::Operator;
@@ -23,7 +23,7 @@ pub struct Domain {
 }
 
 impl Domain {
-    // How many devices there are. Stays (a): "ones give its size" is a fixed form (docs/DECISIONS.md, on code places).
+    // How many devices there are: "ones give its size". `zero_in` takes as many turns.
     #[tactic(auto, using(crate::proofs::Laws::walks))]
     pub fn size(self) -> u32
         ensures { result ≡ length (members self.bits) }
@@ -132,15 +132,47 @@ impl Held {
     }
 }
 
-// Whether a cell in the domain is 0.
-#[tactic(auto, using(arith::proofs::Signs::reads), unfolding(crate::specs::Members::any_zero))]
+// Whether the devices that two fields share have a divisor 0, by the operator's number in a table. A field is lent as its domain and its cells.
+#[tactic(auto, using(crate::proofs::Fields::fields))]
+pub fn faults_in(
+    o: u8,
+    left: Domain,
+    xs: &[i32; DEVICES],
+    right: Domain,
+    ys: &[i32; DEVICES],
+) -> bool
+    ensures { result ≡ faults_in (operator_of o) (field_of left.bits xs.now) (field_of right.bits ys.now) }
+{
+    Operator::from(o) == Operator::Over && zero_in(left.shared(right), ys)
+}
+
+// That operator on two fields, lent likewise.
+#[tactic(auto, using(crate::proofs::Fields::fields))]
+pub fn shared(o: u8, left: Domain, xs: &[i32; DEVICES], right: Domain, ys: &[i32; DEVICES]) -> Held
+    requires { faults_in (operator_of o) (field_of left.bits xs.now) (field_of right.bits ys.now) ≡ false }
+    ensures { held result ≡ pointwise (operator_of o) (field_of left.bits xs.now) (field_of right.bits ys.now) }
+{
+    let dom = left.shared(right);
+    Held {
+        cells: lanes(Operator::from(o), dom, xs, ys),
+        dom,
+    }
+}
+
+// Whether a cell in the domain is 0. The walk is as long as the size says, which goes down with each device.
+#[tactic(auto, using(arith::proofs::Signs::reads, crate::proofs::Laws::none_in), unfolding(crate::specs::Members::any_zero))]
 fn zero_in(dom: Domain, ys: &[i32; DEVICES]) -> bool
     ensures { result ≡ any_zero (members dom.bits) ys.now }
 {
-    for k in dom {
+    let mut left = dom;
+    for _ in 0..dom.size() {
+        let Some((k, rest)) = left.split_lowest() else {
+            unreachable!()
+        };
         if ys[k] == 0 {
             return true;
         }
+        left = rest;
     }
     false
 }

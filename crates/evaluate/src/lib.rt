@@ -15,7 +15,6 @@ ghost use Rattle.words.specs.Trees.{tree_at, arg_of};
 ghost use Rattle.leaf.specs.Asked.{Number, IsField, Argument, Inside, Folding, third_on};
 
 use apply::Walk;
-use arith::Operator;
 use domain::Held;
 use heard::Measure;
 use layout::{FAULT, MARK, NODES, OWN, SENSORS, SENT, STATE};
@@ -117,7 +116,7 @@ fn operator_at(
     if st[FAULT] != 0 {
         return 0;
     }
-    apply::number_op(st, n, Operator::from(unpack::item_of(w)), x, y)
+    apply::number_op(st, n, unpack::item_of(w), x, y)
 }
 
 // An if: the variables of the other branch are erased, then one branch is evaluated.
@@ -395,7 +394,7 @@ fn fold_at(
     if form == FOLD_BY {
         return fold_by(t, u, here, st, n, unpack::body_of(w), x, &f).value;
     }
-    apply::fold_op(st, n, Operator::from(unpack::item_of(w)), x, &f).value
+    apply::fold_op(st, n, unpack::item_of(w), x, &f).value
 }
 
 // A field folded by a definition, lowest device first: a turn for each device.
@@ -452,7 +451,7 @@ fn field_at(
             if st[FAULT] != 0 {
                 return Held::no_field();
             }
-            apply::field_op(st, n, Operator::from(unpack::item_of(w)), &l, &r)
+            apply::field_op(st, n, unpack::item_of(w), &l, &r)
         }
         _ => {
             // Stays (b): one arm takes both, so that the call stands once and is compiled in place (DECISIONS, C18).

@@ -9,7 +9,6 @@ ghost use Rattle.words.specs.Trees.{tree_at};
 ghost use Rattle.apply.specs.State.{state_of, Gives};
 ghost use Rattle.leaf.specs.Asked.{IsLeaf, IsPair};
 
-use arith::Operator;
 use layout::{NODES, STATE};
 use unpack::{CONSTANT, PARAMETER};
 
@@ -20,12 +19,15 @@ pub fn leaf(t: &[u64; NODES], st: &[i32; STATE], env: &[i32; 4], n: u16) -> i32
 {
     let w = t[n as usize];
     let form = unpack::form_of(w);
-    // Stays (b): constants first, and their item not read: a match on the form costs arithmetic a tenth.
+    // Stays (b): constants first, and their item not read: a match on the form costs arithmetic a tenth. A parameter by an early return, which is a jump: a choice of two cells waits for the form.
     if form == CONSTANT {
         return unpack::constant_of(w);
     }
     let p = unpack::item_of(w) as usize;
-    if form == PARAMETER { env[p] } else { st[p] }
+    if form == PARAMETER {
+        return env[p];
+    }
+    st[p]
 }
 
 // An operator on two leaves: neither faults, so only the operator can.
@@ -36,5 +38,5 @@ pub fn pair(t: &[u64; NODES], st: &mut [i32; STATE], env: &[i32; 4], n: u16) -> 
     let w = t[n as usize];
     let x = leaf(t, st, env, unpack::first(w));
     let y = leaf(t, st, env, unpack::second(w));
-    apply::number_op(st, n, Operator::from(unpack::item_of(w)), x, y)
+    apply::number_op(st, n, unpack::item_of(w), x, y)
 }

@@ -1,7 +1,6 @@
 -- `apply::fold_op` keeps this in its loop.
 use Rattle.std.proofs.Common.{◌≡◌, ℕ, ℤ, pos}
-use Rattle.arith.specs.Named.{named}
-use Rattle.arith.specs.declared.operator.Operator.{Operator}
+use Rattle.number.specs.Number.{operator_of}
 use Rattle.round.specs.Round.{State, Outcome, on_numbers, folded}
 use Rattle.domain.specs.Held.{held}
 use Rattle.domain.specs.Members.{members}
@@ -11,8 +10,8 @@ use Rattle.apply.proofs.Folding.{along}
 use Rattle.apply.proofs.fold_op.Given as goal
 
 -- the operator o of node n
-abbrev by : ℕ → Operator → ℤ → ℤ → State → Outcome
-by n o x y s = on_numbers n (named o) x y s
+abbrev by : ℕ → ℕ → ℤ → ℤ → State → Outcome
+by n o x y s = on_numbers n (operator_of o) x y s
 
 -- what is left to fold comes to what the whole does, and has the turns that are to come
 abbrev pub invariant-loop-k : goal.invariant-loop-k

@@ -23,7 +23,7 @@ use Rattle.domain.proofs.Laws.{turned_none, turned-few, turned_more, turned-all}
 use Rattle.words.specs.Word.{count, word}
 use Rattle.words.specs.Trees.{tree_at}
 use Rattle.apply.specs.State.{state_of}
-use Rattle.apply.proofs.Laws.{state-variable, clear, goes, fails, gives, gave, passed, on-numbers, on-fields, numbers-named, stores, sends}
+use Rattle.apply.proofs.Laws.{state-variable, clear, goes, fails, gives, gave, passed, on-numbers, on-fields, numbers-read, stores, sends}
 use Rattle.apply.proofs.Folding.{along, fold-starts, fold-ends, fold-turns}
 use Rattle.leaf.proofs.Evaluates.{right, rules, field-rules, ev, ev-oper, ev-sense, ev-rep, ev-if, ev-mux, ev-fold, ev-foldop, ev-least, ev-folds, ev-bare, ev-first}
 use Rattle.leaf.proofs.Evaluates.{ev-nbr, ev-lag, ev-ranged, ev-iff, ev-operf}
@@ -172,7 +172,7 @@ field_at-returns-else-st-ne0-2 t c =
     c.field_side-r.ensures.as_field
     (either c.args.t.now c.first.ensures c.second.ensures ((field-rules c.requires).side z) c.field_side-l.ensures.sort
     c.field_side-r.ensures.sort))
-    (rw c.from.ensures at c.field_op.ensures)
+    c.field_op.ensures
 
 pub field_at-returns-after-form-eq-LAG : goal.field_at-returns-after-form-eq-LAG
 field_at-returns-after-form-eq-LAG t c =
@@ -309,7 +309,7 @@ fold_at-returns t c =
     c.item_of.ensures c.first.ensures c.second.ensures
     ∙ goes _ c.operand-x.ensures (search given_rules) c.if-st-ne0.false
     ∙ goes _ c.field_at-f.ensures (search given_rules) c.if-st-ne0-2.false)
-    (passed (search given_rules) (from-read _ _ _ c.operand-x.result (sfits_of c.operand-x.type_inv) (rw c.from.ensures at c.fold_op.ensures.leaves)))
+    (passed (search given_rules) (from-read _ _ _ c.operand-x.result (sfits_of c.operand-x.type_inv) c.fold_op.ensures.leaves))
 
 -- fold_by
 pub fold_by-loop-k-init : goal.fold_by-loop-k-init
@@ -598,7 +598,7 @@ operator_at-returns t c =
     ∙ goes _ c.number_side-y.ensures (search given_rules) c.if-st-ne0-2.false
     ∙ on-numbers _ _ _ _ _)
     (passed (sfits_of c.number_op.type_inv)
-    (numbers-named _ c.from.result c.item_of.result _ c.number_side-x.result c.number_side-y.result c.from.ensures (sfits_of c.number_side-x.type_inv)
+    (numbers-read _ _ _ c.number_side-x.result c.number_side-y.result (sfits_of c.number_side-x.type_inv)
     (sfits_of c.number_side-y.type_inv) c.number_op.ensures))
 
 -- rep_at

@@ -20,8 +20,8 @@ returns-then-form-eq-PARAMETER c =
     λ here. gives (ev-param c.args.t.now c.args.n here c.args.env.now (state_of c.args.st.now) z c.item_of-p.result c.item_of-p.ensures)
     (gave (ap number (grind (arith, to_z-of_z))) refl c.requires.clear)
 
-pub returns-else-form-eq-PARAMETER : goal.returns-else-form-eq-PARAMETER
-returns-else-form-eq-PARAMETER c =
+pub returns : goal.returns
+returns c =
     let z : form (word c.args.t.now c.args.n) ≡ variable_form = omega (arith, c.requires.leaf) in
     let v = state-variable c.args.st.now c.item_of-p.result (omega (arith, c.item_of-p.ensures)) in
     λ here. gives (ev-var c.args.t.now c.args.n here c.args.env.now (state_of c.args.st.now) z c.item_of-p.result c.item_of-p.ensures)
