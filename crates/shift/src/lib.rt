@@ -1,7 +1,7 @@
 // A shift replayed: the text that a program and a list of events print, from a fresh network.
 #![tactic(auto)]
 
-ghost use Rattle.std.specs.Prelude.{◌≡◌, ◌*◌, ◌≤◌, length, IfOk, IfErr};
+ghost use Rattle.std.specs.Prelude.{◌≡◌, [], ◌*◌, ◌≤◌, length, IfOk, IfErr};
 ghost use Rattle.verdict.specs.Outcome.{number_of};
 ghost use Rattle.event.specs.Calls.{answer_width};
 ghost use Rattle.lines.specs.Text.{lines, refused_line};
@@ -31,15 +31,23 @@ fn carry_out(program: &[u8], list: &[u8], space: &mut [i32]) -> Result<usize, Re
     lists::count_events(list)
 }
 
-// The text of a program and a list.
+// Puts the text of a program and a list. The text is lent: handed up by value it would be copied at each call, and it is large.
+pub fn put_replayed(program: &[u8], list: &[u8], text: &mut Text)
+    requires { text.old.bytes ≡ [] }
+    ensures { text.new.bytes ≡ replayed program.now list.now }
+{
+    let mut space = [0; ANSWERS];
+    match carry_out(program, list, &mut space) {
+        Ok(events) => lines::put_lines(&space, events, text),
+        Err(refusal) => lines::put_refused(refusal, text),
+    }
+}
+
+// The same as a text of its own.
 pub fn replayed(program: &[u8], list: &[u8]) -> Text
     ensures { result.bytes ≡ replayed program.now list.now }
 {
     let mut text = Text::new();
-    let mut space = [0; ANSWERS];
-    match carry_out(program, list, &mut space) {
-        Ok(events) => lines::put_lines(&space, events, &mut text),
-        Err(refusal) => lines::put_refused(refusal, &mut text),
-    }
+    put_replayed(program, list, &mut text);
     text
 }
