@@ -1,10 +1,13 @@
 -- `parse::pass` meets its contract. Assumes nothing.
-use mathlib.Core.Path.{sym, ◌∙◌, ap}
+use mathlib.Core.Path.{sym, ◌∙◌, ap, subst}
+use mathlib.Core.Bool.{true, false}
 use Prim.Native.Nat.{ℕ, ◌-◌, ◌<◌}
 use native.Mathlib.Omega.{arith}
 use lib.Dec.{eqb}
 use borrow.Author.Tests.{eq-eqb, ne_eqb}
 use lib.ListN.{length}
+use Rattle.std.proofs.Common.{rules}
+use Rattle.parse.specs.Passed.{Passed}
 use Rattle.parse.proofs.Passing.{begin-pass}
 use Rattle.parse.proofs.Turns.{turn_end, turn-refused, turn-next, placed, refused-within}
 use Rattle.parse.proofs.pass.Goals as goal
@@ -26,8 +29,9 @@ overflow_add-result c =
 
 pub returns-in-Err : goal.returns-in-Err
 returns-in-Err c =
-    turn-refused _ _ c.requires _ _ _ _ c.loop-t.invariant.0 _ (sym c.in-Some.ensures)
-    c.in-Err.shared (rw c.loop-t.invariant.1 at c.in-Err.ensures.taken)
+    subst (λ (n : ℕ). Passed c.args.s.now c.args.base true n c.loop-t.deepest false) (search rules)
+    (turn-refused _ _ c.requires _ _ _ _ c.loop-t.invariant.0 _ (sym c.in-Some.ensures)
+    c.in-Err.shared (rw c.loop-t.invariant.1 at c.in-Err.ensures.taken))
 
 pub loop-t-smaller : goal.loop-t-smaller
 loop-t-smaller c =
