@@ -8,6 +8,8 @@ use Rattle.lists.proofs.count_events.Goals as goal
 pub loop-rest-init : goal.loop-rest-init
 loop-rest-init c = begin _
 
+-- cut short, or no event:
+-- as many are whole as stand before it
 pub returns-in_default : goal.returns-in_default
 returns-in_default c =
     let e = bad-turn c.loop-rest.invariant (omega (arith, eqb-false _ 0 (sym c.is_empty.ensures ∙ c.loop-rest-test.true))) c.in_default.ensures.first in

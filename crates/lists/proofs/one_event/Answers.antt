@@ -5,6 +5,8 @@ use borrow.Author.Tests.{eqb-true, eqb-false}
 use Rattle.lists.proofs.Turns.{one-bad, one-long, one-alone}
 use Rattle.lists.proofs.one_event.Goals as goal
 
+-- no field, cut short, or no event:
+-- none is whole
 pub returns-in_default : goal.returns-in_default
 returns-in_default c = let e = one-bad _ c.in_default.ensures.first in cc
 
