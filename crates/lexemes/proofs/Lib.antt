@@ -3,6 +3,7 @@ pub mod Cut
 pub mod Seen
 pub mod Made
 pub mod Whole
+pub mod Back
 pub mod Laws
 pub mod Shown
 pub mod Depth

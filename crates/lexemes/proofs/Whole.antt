@@ -1,18 +1,18 @@
 -- A word whose first byte is known: as many bytes more as lead behind it. Assumes nothing.
 use mathlib.Core.Path.{◌≡◌, refl, ◌∙◌}
 use mathlib.Core.Bool.{cond}
-use mathlib.Core.List.{List, ◌∷◌, reverse}
-use Prim.Native.Nat.{ℕ, suc, ◌+◌, ◌-◌, ◌≤◌, ◌<◌}
+use mathlib.Core.List.{List, ◌∷◌}
+use Prim.Native.Nat.{ℕ, suc, ◌+◌, ◌≤◌, ◌<◌}
 use native.Mathlib.Omega.{arith}
 use native.Mathlib.Numerals.{add-one}
-use lib.ListN.{length, get_or, take, drop}
+use lib.ListN.{length, get_or, drop}
 use lib.Seq.{drop-cons}
 use Rattle.std.specs.Prelude.{Some}
 use Rattle.notation.specs.Text.{ByteKind, blank_byte, left, right, word_byte, byte_kind}
 use Rattle.lexemes.specs.declared.Kind.TheVariants.{Word}
-use Rattle.lexemes.specs.Lexeme.{word_kind, blank_size, word_size, kind_of, next_lexeme, last_lexeme}
-use Rattle.lexemes.proofs.Leading.{word-cons, no-blank, back-cons, back-within}
-use Rattle.lexemes.proofs.Made.{firm, firm-back}
+use Rattle.lexemes.specs.Lexeme.{word_kind, blank_size, word_size, kind_of, next_lexeme}
+use Rattle.lexemes.proofs.Leading.{word-cons, no-blank}
+use Rattle.lexemes.proofs.Made.{firm}
 
 pub word-more : (b : ℕ) (v : List ℕ) → blank_size (b ∷ v) ≡ 0 → kind_of (byte_kind b) ≡ Word → word_size (b ∷ v) ≡ suc (word_size v)
 word-more b v z k = word-cons b v ∙ go (byte_kind b) refl k
@@ -31,15 +31,4 @@ word-next s at start b h q l g k =
     let e : drop start s ≡ b ∷ drop (start + 1) s = rw (add-one, g) (drop-cons s start 0 l) in
     let m = word-more b (drop (start + 1) s) (rw e at z) k in
     let n : start + suc (word_size (drop (start + 1) s)) ≡ start + 1 + word_size (drop (start + 1) s) = omega arith in
-    rw (← q, e, k, m, n) refl
-
--- the token before the blanks
-pub word-last : (s : List ℕ) (at end b : ℕ) → at ≤ length s → end ≡ at - blank_size (reverse (take at s)) → 0 < end → b ≡ get_or s (end - 1) 0 → kind_of (byte_kind b) ≡ Word
-    → Some (record { kind = Word; start = end - 1 - word_size (reverse (take (end - 1) s)); end = end }) ≡ last_lexeme s at
-word-last s at end b h q p g k =
-    let i = back-within s at h in
-    let e : reverse (take end s) ≡ b ∷ reverse (take (end - 1) s) = rw g (back-cons s end p (omega arith)) in
-    let z : blank_size (reverse (take end s)) ≡ 0 = rw q (firm-back s at h) in
-    let m = word-more b (reverse (take (end - 1) s)) (rw e at z) k in
-    let n : end - suc (word_size (reverse (take (end - 1) s))) ≡ end - 1 - word_size (reverse (take (end - 1) s)) = omega arith in
     rw (← q, e, k, m, n) refl

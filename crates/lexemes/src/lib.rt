@@ -48,21 +48,13 @@ fn kind_of(b: u8) -> Kind
     }
 }
 
-// How many blanks lead, how many end it; the same of a word's bytes.
+// How many blanks lead; how many bytes of a word lead, how many end it.
 #[tactic(auto, unfolding(crate::specs::Lexeme::blank_size))]
 fn blanks_at_front(s: &[u8]) -> usize
     ensures size { result ≡ blank_size s.now }
     ensures within { result ≤ length s.now }
 {
     s.iter().take_while(|b| is_blank(**b)).count()
-}
-
-#[tactic(auto, unfolding(crate::specs::Lexeme::blank_size))]
-fn blanks_at_end(s: &[u8]) -> usize
-    ensures size { result ≡ blank_size (reverse s.now) }
-    ensures within { result ≤ length s.now }
-{
-    s.iter().rev().take_while(|b| is_blank(**b)).count()
 }
 
 #[tactic(auto, unfolding(crate::specs::Lexeme::word_size))]
@@ -96,18 +88,34 @@ pub fn next(s: &[u8], at: usize) -> Option<Lexeme>
     Some(Lexeme { kind, start, end })
 }
 
-// The token that ends at or before `at`.
+// The token that ends at or before `at`: one loop over what is left before it.
+#[tactic(auto, using(crate::proofs::Back::last_blank, crate::proofs::Back::last_left, crate::proofs::Back::last_right), unfolding(notation::specs::Text::byte_kind))]
 pub fn last(s: &[u8], at: usize) -> Option<Lexeme>
     requires { at ≤ length s.now }
     ensures { result ≡ last_lexeme s.now at }
 {
-    let end = at - blanks_at_end(&s[..at]);
-    let kind = kind_of(*s[..end].last()?);
-    let start = match kind {
-        Kind::Opening | Kind::Closing => end - 1,
-        Kind::Word => end - 1 - word_at_end(&s[..end - 1]),
-    };
-    Some(Lexeme { kind, start, end })
+    let mut rest = &s[..at];
+    while let [front @ .., b] = rest {
+        match b {
+            b' ' | b'\n' | b'\r' => rest = front,
+            b'(' => return Some(Lexeme {
+                kind: Kind::Opening,
+                start: front.len(),
+                end: rest.len(),
+            }),
+            b')' => return Some(Lexeme {
+                kind: Kind::Closing,
+                start: front.len(),
+                end: rest.len(),
+            }),
+            _ => return Some(Lexeme {
+                kind: Kind::Word,
+                start: front.len() - word_at_end(front),
+                end: rest.len(),
+            }),
+        }
+    }
+    None
 }
 
 // The brackets that are open behind a token of that kind.
