@@ -102,3 +102,7 @@ module _ {w : Word} {e : List ℕ} {p : ℕ} {x : Passed} (g : Walking w e p x) 
       kept = kept_step (length e) p r.start r.kind here x g.kept (let h = walk-within in omega (arith, h.filled, h.inside));
       same = turned ∙ rw b;
     })
+
+    -- a word binds nothing
+    pub walk-word : r.kind ≡ AWord → (y : Passed) → y ≡ stepped AWord here x → Walking w e r.start y
+    walk-word k y z = walk-next (rw k refl) y (rw k z)

@@ -89,10 +89,16 @@ pub fn rep_of(form: &[u8], w: &[u8]) -> Option<usize>
     // Stays (c): no `while let`, which the borrow checker does not cover beside a walk that holds references.
     loop {
         let l = lexemes::last(form, at)?;
-        if walk.binds(l.kind, w) {
-            return Some(l.start);
-        }
-        walk = walk.outward(l.kind, &form[l.start..l.end]);
+        // the kind is asked once: a word binds nothing
+        walk = match l.kind {
+            Kind::Word => walk.outward(Kind::Word, &form[l.start..l.end]),
+            kind => {
+                if walk.binds(kind, w) {
+                    return Some(l.start);
+                }
+                walk.outward(kind, &form[l.start..l.end])
+            }
+        };
         at = l.start;
     }
 }
