@@ -85,3 +85,7 @@ module _ {e : List ℕ} {p : ℕ} {x : Passed} (g : Closing e p x) where
       kept = kept_step (length e) p r.start r.kind here x g.kept (let h = closing-within in omega (arith, h.filled, h.inside));
       same = turned ∙ rw b;
     })
+
+    -- a word opens nothing
+    pub closing-word : r.kind ≡ AWord → (y : Passed) → y ≡ stepped AWord here x → Closing e r.start y
+    closing-word k y z = closing-next (rw k refl) y (rw k z)

@@ -38,15 +38,21 @@ pub fn form_of(part: &[u8]) -> Option<Form<'_>>
     // Stays (c): no `while let`, which the borrow checker does not cover beside a walk that holds references.
     loop {
         let l = lexemes::last(part, at)?;
-        if opens(l.kind, walk) {
-            return Some(Form {
-                open: l.start,
-                items: walk.items,
-                head: walk.last,
-                second: walk.prior,
-            });
-        }
-        walk = walk.outward(l.kind, &part[l.start..l.end]);
+        // the kind is asked once: a word opens nothing
+        walk = match l.kind {
+            Kind::Word => walk.outward(Kind::Word, &part[l.start..l.end]),
+            kind => {
+                if opens(kind, walk) {
+                    return Some(Form {
+                        open: l.start,
+                        items: walk.items,
+                        head: walk.last,
+                        second: walk.prior,
+                    });
+                }
+                walk.outward(kind, &part[l.start..l.end])
+            }
+        };
         at = l.start;
     }
 }
