@@ -94,37 +94,41 @@ module _ (s : List ℕ) (top at d m : ℕ) (q : Output) (g : Going s top at d m 
   whole : lex (drop at s) ≡ [] → lex (take at s) ≡ lex s
   whole z = sym (parted-splits s at g.cut.cut_here ∙ ap (λ (l : List Token). lex (take at s) ++ l) z ∙ append-nil (lex (take at s)))
 
+  -- the table of any program that the text is, however many its parts
+  pub ended-table : lex (drop at s) ≡ [] → (t t' : List ℕ) (o : Waiting) → Writes t o q → t' ≡ t ++ field_bytes 3 (last_of o.numbers o.len ∷ [])
+      → (p : Program) → FineProgram p → lex s ≡ program_tokens p → t' ≡ table p
+  ended-table z t t' o w u p f l =
+      let y : (emit start (program_tokens p)).out ≡ q = ap (λ (ts : List Token). (emit start ts).out) (sym l ∙ sym (whole z)) ∙ ap (λ (x : State). x.out) g.same in
+      u ∙ ap (λ (b : List ℕ). b ++ field_bytes 3 (last_of o.numbers o.len ∷ [])) w.bytes
+      ∙ ap (λ (n : ℕ). flat_fields q.parts ++ field_bytes 3 (n ∷ [])) (last-number o.numbers q.stack o.len w.numbers w.waiting)
+      ∙ sym (table-emitted p f ∙ ap (λ (x : Output). flat_fields x.parts ++ field_bytes 3 (byte (get_or x.stack 0 0) ∷ [])) y)
+
   pub ended : lex (drop at s) ≡ [] → (t t' : List ℕ) (o : Waiting) → Writes t o q → t' ≡ t ++ field_bytes 3 (last_of o.numbers o.len ∷ []) → o.nodes ≤ 256 → o.defs ≤ 32 → Compiles s t'
   ended z t t' o w u n k = record {
-    same = λ p f l. ap check (all p f l);
-    whole = λ p f l c. all p f l;
+    same = λ p f l. ap check (ended-table z t t' o w u p f l);
+    whole = λ p f l c. ended-table z t t' o w u p f l;
     within = (let b = in-all t o w in let e = ap length u in let a = length-append t (field_bytes 3 (last_of o.numbers o.len ∷ [])) in omega (arith, b, e, a, n, k));
   }
-    where
-      all : (p : Program) → FineProgram p → lex s ≡ program_tokens p → t' ≡ table p
-      all p f l =
-          let y : (emit start (program_tokens p)).out ≡ q = ap (λ (ts : List Token). (emit start ts).out) (sym l ∙ sym (whole z)) ∙ ap (λ (x : State). x.out) g.same in
-          u ∙ ap (λ (b : List ℕ). b ++ field_bytes 3 (last_of o.numbers o.len ∷ [])) w.bytes
-          ∙ ap (λ (n : ℕ). flat_fields q.parts ++ field_bytes 3 (n ∷ [])) (last-number o.numbers q.stack o.len w.numbers w.waiting)
-          ∙ sym (table-emitted p f ∙ ap (λ (x : Output). flat_fields x.parts ++ field_bytes 3 (byte (get_or x.stack 0 0) ∷ [])) y)
 
   -- ---- more nodes or definitions than a table holds
+  overfull : (t : List ℕ) (o : Waiting) → Writes t o q → (256 < o.nodes) ⊎ (32 < o.defs) → Overfull q.parts
+  overfull t o w (inl x) = inl (let c = counted.nodes in omega (arith, x, c, w.nodes))
+  overfull t o w (inr x) = inr (omega (arith, x, w.defs))
+
+  -- the table of any program that the text is, is refused, and what is written alike, however many its parts
+  pub full-check : (t : List ℕ) (o : Waiting) → Writes t o q → (256 < o.nodes) ⊎ (32 < o.defs)
+      → (p : Program) → FineProgram p → lex s ≡ program_tokens p → (check t ≡ check (table p)) × ((check (table p)).0 ≡ 0 → ⊥)
+  full-check t o w v p f l =
+      let y = ap (λ (x : State). x.out) g.same in
+      let c = cut-table p f (lex (take at s)) (lex (drop at s)) (sym l ∙ parted-splits s at g.cut.cut_here) (subst (λ (x : Output). Overfull x.parts) (sym y) (overfull t o w v)) in
+      (ap check w.bytes ∙ sym (c.0 ∙ ap (λ (x : Output). check (flat_fields x.parts)) y), c.1)
+
   pub full : (t : List ℕ) (o : Waiting) → Writes t o q → (256 < o.nodes) ⊎ (32 < o.defs) → o.nodes ≤ 257 → o.defs ≤ 33 → Compiles s t
   full t o w v n k = record {
-    same = λ p f l. (cut_short p f l).0;
-    whole = λ p f l c. absurd ((cut_short p f l).1 c);
+    same = λ p f l. (full-check t o w v p f l).0;
+    whole = λ p f l c. absurd ((full-check t o w v p f l).1 c);
     within = (let b = in-all t o w in omega (arith, b, n, k));
   }
-    where
-      over : (256 < o.nodes) ⊎ (32 < o.defs) → Overfull q.parts
-      over (inl x) = inl (let c = counted.nodes in omega (arith, x, c, w.nodes))
-      over (inr x) = inr (omega (arith, x, w.defs))
-
-      cut_short : (p : Program) → FineProgram p → lex s ≡ program_tokens p → (check t ≡ check (table p)) × ((check (table p)).0 ≡ 0 → ⊥)
-      cut_short p f l =
-          let y = ap (λ (x : State). x.out) g.same in
-          let c = cut-table p f (lex (take at s)) (lex (drop at s)) (sym l ∙ parted-splits s at g.cut.cut_here) (subst (λ (x : Output). Overfull x.parts) (sym y) (over v)) in
-          (ap check w.bytes ∙ sym (c.0 ∙ ap (λ (x : Output). check (flat_fields x.parts)) y), c.1)
 
 -- ---- the loop
 pub record Making (s t : List ℕ) (o : Waiting) (top at d m : ℕ) : Type 0 where

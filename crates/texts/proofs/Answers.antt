@@ -27,7 +27,6 @@ use Rattle.verdict.specs.Outcome.{number_of, refusal_at}
 use Rattle.parse.specs.Passed.{ends}
 use Rattle.bindings.specs.Good.{names_pass}
 use Rattle.bindings.proofs.Names.{names-exactly}
-use Rattle.compile.specs.Writes.{Compiles}
 
 -- ---- the answers in their order
 by_names : (p : Program) (out : List ℕ) → names_good p ≡ false → compiled p out ≡ ((20, 0), out)
@@ -101,17 +100,19 @@ module _ (s out : List ℕ) (y : ends (run outset (lex s)) ≡ true) (good : Boo
   pub unresolved : good ≡ false → Reads s out (20, 0) out
   unresolved z = inside (20, 0) out (λ p f l. sym (by_names p out (names p f l ∙ z)))
 
-  module _ (z : good ≡ true) (bytes : List ℕ) (c : Compiles s bytes) where
+  -- the bytes are the table of the text's program, or as much of it as the check refuses alike
+  module _ (z : good ≡ true) (bytes : List ℕ) (alike : (p : Program) → FineProgram p → lex s ≡ program_tokens p → check bytes ≡ check (table p))
+      (whole : (p : Program) → FineProgram p → lex s ≡ program_tokens p → (check (table p)).0 ≡ 0 → bytes ≡ table p) where
     pub unsound : (v : Verdict) → v ≡ check bytes → eqb v.0 0 ≡ false → Reads s out v out
-    unsound v e x = inside v out (λ p f l. let q = e ∙ c.same p f l in
+    unsound v e x = inside v out (λ p f l. let q = e ∙ alike p f l in
         sym (by-check p out (names p f l ∙ z) (ap (λ (u : Verdict). eqb u.0 0) (sym q) ∙ x) ∙ ap (λ (u : Verdict). (u, out)) (sym q)))
 
     module _ (e : (check bytes).0 ≡ 0) where
       same : (p : Program) → FineProgram p → lex s ≡ program_tokens p → bytes ≡ table p
-      same p f l = c.whole p f l (ap (λ (u : Verdict). u.0) (sym (c.same p f l)) ∙ e)
+      same p f l = whole p f l (ap (λ (u : Verdict). u.0) (sym (alike p f l)) ∙ e)
 
       accepted : (p : Program) → FineProgram p → lex s ≡ program_tokens p → eqb (check (table p)).0 0 ≡ true
-      accepted p f l = ap (λ (n : ℕ). eqb n 0) (ap (λ (u : Verdict). u.0) (sym (c.same p f l)) ∙ e)
+      accepted p f l = ap (λ (n : ℕ). eqb n 0) (ap (λ (u : Verdict). u.0) (sym (alike p f l)) ∙ e)
 
       pub no_room : length out < length bytes → Reads s out (13, 0) out
       no_room h =

@@ -18,15 +18,18 @@ returns-in_err-check c =
     let b : Compiles c.args.text.now c.as_slice-bytes.result.now = rw c.as_slice-bytes.ensures c.fill.ensures in
     let e : c.from_residual.result ≡ Err c.in_err-check.field-0.0 = search rules in
     rw e
-    (unsound _ _ c.in_default.ensures.0 c.names_good.result c.names_good.ensures c.if-not-names_good.false _ b _ (sym (ap outcome c.in_err-check.was) ∙ c.check.ensures) (refused c.in_err-check.field-0.0.reason))
+    (unsound _ _ c.in_default.ensures.0 c.names_good.result c.names_good.ensures c.if-not-names_good.false _ b.same b.whole
+    _ (sym (ap outcome c.in_err-check.was) ∙ c.check.ensures) (refused c.in_err-check.field-0.0.reason))
 
 pub returns-then-table-n : goal.returns-then-table-n
 returns-then-table-n c =
     let b : Compiles c.args.text.now c.as_slice-bytes.result.now = rw c.as_slice-bytes.ensures c.fill.ensures in
-    no_room _ _ c.in_default.ensures.0 c.names_good.result c.names_good.ensures c.if-not-names_good.false _ b (ap (λ (u : Verdict). u.0) (sym c.check.ensures ∙ ap outcome c.in_ok-check.was)) c.if-table-n.true
+    no_room _ _ c.in_default.ensures.0 c.names_good.result c.names_good.ensures c.if-not-names_good.false _ b.same b.whole
+    (ap (λ (u : Verdict). u.0) (sym c.check.ensures ∙ ap outcome c.in_ok-check.was)) c.if-table-n.true
 
 pub returns : goal.returns
 returns c =
     let b : Compiles c.args.text.now c.as_slice-bytes.result.now = rw c.as_slice-bytes.ensures c.fill.ensures in
-    written _ _ c.in_default.ensures.0 c.names_good.result c.names_good.ensures c.if-not-names_good.false _ b (ap (λ (u : Verdict). u.0) (sym c.check.ensures ∙ ap outcome c.in_ok-check.was))
-    c.if-table-n.false _ (ap (λ (l : List ℕ). l ++ drop (length c.as_slice-bytes.result.now) c.args.table.now) c.copy_from_slice.ensures.after)
+    written _ _ c.in_default.ensures.0 c.names_good.result c.names_good.ensures c.if-not-names_good.false _ b.same b.whole
+    (ap (λ (u : Verdict). u.0) (sym c.check.ensures ∙ ap outcome c.in_ok-check.was)) c.if-table-n.false
+    _ (ap (λ (l : List ℕ). l ++ drop (length c.as_slice-bytes.result.now) c.args.table.now) c.copy_from_slice.ensures.after)
