@@ -94,7 +94,7 @@ module _ (s : List ℕ) (top at d m : ℕ) (q : Output) (g : Going s top at d m 
   whole : lex (drop at s) ≡ [] → lex (take at s) ≡ lex s
   whole z = sym (parted-splits s at g.cut.cut_here ∙ ap (λ (l : List Token). lex (take at s) ++ l) z ∙ append-nil (lex (take at s)))
 
-  -- the table of any program that the text is, however many its parts
+  -- at the end of the text what is written is its program's table, however many nodes and definitions that has
   pub ended-table : lex (drop at s) ≡ [] → (t t' : List ℕ) (o : Waiting) → Writes t o q → t' ≡ t ++ field_bytes 3 (last_of o.numbers o.len ∷ [])
       → (p : Program) → FineProgram p → lex s ≡ program_tokens p → t' ≡ table p
   ended-table z t t' o w u p f l =
@@ -115,7 +115,7 @@ module _ (s : List ℕ) (top at d m : ℕ) (q : Output) (g : Going s top at d m 
   overfull t o w (inl x) = inl (let c = counted.nodes in omega (arith, x, c, w.nodes))
   overfull t o w (inr x) = inr (omega (arith, x, w.defs))
 
-  -- the table of any program that the text is, is refused, and what is written alike, however many its parts
+  -- the check refuses the table of the text's program, and what is written so far with the same number and place, however far it went
   pub full-check : (t : List ℕ) (o : Waiting) → Writes t o q → (256 < o.nodes) ⊎ (32 < o.defs)
       → (p : Program) → FineProgram p → lex s ≡ program_tokens p → (check t ≡ check (table p)) × ((check (table p)).0 ≡ 0 → ⊥)
   full-check t o w v p f l =
